@@ -1,0 +1,61 @@
+pub mod Position
+pub mod Laws
+-- decibels.rs: `Decibels::as_amplitude`, with the gain table in place of `powf`.
+use mathlib.Core.Bool.{Bool, true, false, cond, not, _&&_}
+use Prim.Native.Nat.{ℕ, suc, _+_, _-_, _*_, _/_, _%_, _^_, _<_}
+use lib.IntN.{pos}
+use lib.Dec.{T}
+use lib.Ieee.{Float, nan, inf, fin, binary64, up, down, round, neg, add, sub, mul, div, eq, le, ofInt, isNan}
+use Rattle.number.specs.Narrow.{narrowed}
+use Rattle.gain_table.specs.GainTable.{entry, entries}
+
+-- whole numbers of either format
+abbrev pub whole : ℕ → Float
+whole n = ofInt binary64 (pos n)
+
+-- the largest number of decibels that has an amplitude, 24.0
+abbrev pub limit : Float
+limit = whole 24
+
+-- `Decibels::SILENCE`, -60.0
+abbrev pub silence : Float
+silence = neg (whole 60)
+
+-- question 11: is the number not NaN and at most the limit?
+unfoldable pub admitted : Float → Bool
+admitted n = not (isNan n) && le n limit
+
+-- 960 + 16 n, where n is ±a / c, as a fraction over c
+abbrev pub sixteenths : Bool → ℕ → ℕ → ℕ
+sixteenths false a c = 960 * c + 16 * a
+sixteenths true a c = 960 * c - 16 * a
+
+-- the entry at or below n: 960 + k, k being the whole part (downward) of 16 n
+unfoldable pub entryBelow : Float → ℕ
+entryBelow nan = 0
+entryBelow (inf s) = 0
+entryBelow (fin s m e) = sixteenths s (m * up e) (down e) / down e
+
+-- the rest of 16 n, rounded to f64
+unfoldable pub restAbove : Float → Float
+restAbove nan = nan
+restAbove (inf s) = nan
+restAbove (fin s m e) = round binary64 false (sixteenths s (m * up e) (down e) % down e) (down e)
+
+-- entry n, and of the straight line to the next one the part `rest`, in f64; with no rest only entry n counts
+unfoldable pub lineAt : ℕ → Float → Float
+lineAt n rest =
+    cond (eq rest (whole 0)) (whole (entry n))
+    (add binary64 (whole (entry n)) (mul binary64 (sub binary64 (whole (entry (suc n))) (whole (entry n))) rest))
+
+-- the entries that the line reads are there
+pub record OnTable (n : ℕ) (rest : Float) : Type 0 where
+  pub this : n < entries
+  pub next : T (not (eq rest (whole 0))) → suc n < entries
+
+-- the gain table's part: the line at 16 n, divided by 2^40 in f64 and rounded to f32
+unfoldable pub curve : Float → Float
+curve n = narrowed (div binary64 (lineAt (entryBelow n) (restAbove n)) (whole (2 ^ 40)))
+
+unfoldable pub amplitude : Float → Float
+amplitude n = cond (eq n (whole 0)) (whole 1) (cond (le n silence) (whole 0) (curve n))

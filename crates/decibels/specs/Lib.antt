@@ -1,0 +1,4 @@
+pub mod Decibels
+pub mod Answer
+pub mod Rows
+pub mod Settled

@@ -1,0 +1,107 @@
+// kira's decibels.rs: a change in volume, and the factor that it stands for.
+ghost use mathlib.Core.Path.{_≡_};
+ghost use mathlib.Core.Bool.{not};
+ghost use Prim.Native.Nat.{_<_};
+ghost use lib.Ieee as Ieee;
+ghost use lib.Dec.{T};
+ghost use Rattle.gain_table.specs.GainTable.{IsGainTable};
+ghost use Rattle.decibels.specs.Decibels.{amplitude, admitted, silence, whole, entryBelow, restAbove, lineAt, OnTable};
+ghost use Rattle.decibels.specs.Answer.{answered, amplitudeAnswer};
+use gain_table::gain_table;
+
+pub struct Decibels(pub f32);
+
+// A linear factor. It is a type of its own, so that a level is never taken for a factor.
+pub struct Amplitude(pub f32);
+
+pub enum AmplitudeAnswer {
+    Given(Amplitude),
+    Refused,
+}
+
+// The largest number of decibels that has an amplitude.
+pub const LIMIT: f32 = 24.0;
+
+// At or below it a level is silent.
+pub const SILENCE: f32 = -60.0;
+
+// Where 16 times a number of decibels stands among the table's entries: the entry below it, and how
+// far above that entry it is.
+struct Position {
+    entry: usize,
+    rest: f64,
+}
+
+impl Decibels {
+    pub fn as_amplitude(self) -> AmplitudeAnswer
+        ensures { λ r. ⌜ answered r ≡ amplitudeAnswer (self .0) ⌝ }
+    {
+        let n = self.0;
+        if n <= LIMIT {
+            let table = gain_table();
+            AmplitudeAnswer::Given(self.as_amplitude_in(&table))
+        } else {
+            AmplitudeAnswer::Refused
+        }
+    }
+
+    // For a caller that keeps the table and knows that the number is not refused.
+    pub fn as_amplitude_in(self, table: &[u64; 1345]) -> Amplitude
+        requires { ⌜ IsGainTable (now table) ⌝ }
+        requires { ⌜ T (admitted (self .0)) ⌝ }
+        ensures { λ r. ⌜ r .0 ≡ amplitude (self .0) ⌝ }
+    {
+        let n = self.0;
+        if n == 0.0 {
+            return Amplitude(1.0);
+        }
+        if n <= SILENCE {
+            return Amplitude(0.0);
+        }
+        let position = position_of(n);
+        let line = line(table, position.entry, position.rest);
+        Amplitude(number::f64_to_f32(line / 1099511627776.0))
+    }
+}
+
+// Between silence and the limit, so that every number here is small.
+fn position_of(n: f32) -> Position
+    requires { ⌜ T (admitted n) ⌝ }
+    requires { ⌜ T (not (Ieee.le n silence)) ⌝ }
+    requires { ⌜ T (not (Ieee.eq n (whole 0))) ⌝ }
+    ensures { λ r. ⌜ (r .entry ≡ entryBelow n) × (r .rest ≡ restAbove n) ⌝ }
+{
+    let steps = (n as f64) * 16.0;
+    if steps < 0.0 {
+        let whole = std::num::truncating_f64_to_u64(-steps);
+        if -steps == whole as f64 {
+            return Position {
+                entry: (960 - whole) as usize,
+                rest: 0.0,
+            };
+        }
+        Position {
+            entry: (959 - whole) as usize,
+            rest: steps + ((whole + 1) as f64),
+        }
+    } else {
+        let whole = std::num::truncating_f64_to_u64(steps);
+        Position {
+            entry: (960 + whole) as usize,
+            rest: steps - (whole as f64),
+        }
+    }
+}
+
+fn line(table: &[u64; 1345], entry: usize, rest: f64) -> f64
+    requires { ⌜ IsGainTable (now table) ⌝ }
+    requires { ⌜ OnTable entry rest ⌝ }
+    ensures { λ r. ⌜ r ≡ lineAt entry rest ⌝ }
+{
+    let this = table[entry] as f64;
+    if rest == 0.0 {
+        return this;
+    }
+    let next = table[entry + 1] as f64;
+    this + (next - this) * rest
+}

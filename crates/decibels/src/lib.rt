@@ -1,0 +1,8 @@
+// Decibels and amplitudes, kira's decibels.rs, with document 01's gain table in place of `powf`.
+mod decibels;
+mod export;
+
+pub use decibels::Amplitude;
+pub use decibels::AmplitudeAnswer;
+pub use decibels::Decibels;
+pub use export::room_desk_amplitude;

@@ -1,0 +1,14 @@
+pub mod Nearest
+pub mod NearestLaws
+pub mod Rounding
+pub mod Fields
+pub mod Narrow
+pub mod NarrowLaws
+pub mod NarrowBits
+pub mod NarrowNearest
+pub mod RoundedNearest
+pub mod NarrowNearestLaws
+pub mod NarrowNearestUnique
+pub mod Duration
+pub mod DurationLaws
+pub mod Controls
