@@ -1,0 +1,264 @@
+// Ours: what kira's `AudioManager` and a game would do. Builds the mixer of a
+// scene, writes its orders through kira's command writers and drives kira's
+// `Renderer`.
+
+use std::{
+	convert::Infallible,
+	sync::{Arc, atomic::Ordering},
+	time::Duration,
+};
+
+use scene::{Order, Scene, Sound as SoundLine, Start, Volume};
+
+use crate::{
+	Capacities, Decibels, Easing, Frame, StartTime, Tween, Value,
+	backend::{
+		Renderer, RendererShared,
+		resources::{ResourceControllers, create_resources},
+	},
+	clock::{Clock, ClockHandle, ClockId, ClockSpeed, ClockTime},
+	info::Info,
+	sound::{Sound, SoundData},
+	track::{
+		MainTrackBuilder, SendTrackBuilder, SendTrackHandle, SendTrackId, TrackBuilder, TrackHandle,
+	},
+};
+
+/// A scene in kira's hands. The handles stand in line order; dropping one
+/// would remove what it stands for.
+pub struct Show {
+	renderer: Renderer,
+	controllers: ResourceControllers,
+	clocks: Vec<ClockHandle>,
+	sends: Vec<SendTrackHandle>,
+	tracks: Vec<TrackHandle>,
+	scene: Scene,
+}
+
+impl Show {
+	pub fn new(scene: &Scene, samples: &[f32]) -> Self {
+		let shared = Arc::new(RendererShared::new(scene.head.rate as u32));
+		let buffer = scene.head.buffer;
+		let (resources, controllers) = create_resources(
+			Capacities::default(),
+			MainTrackBuilder::new().volume(decibels(scene.head.volume)),
+			shared.sample_rate.load(Ordering::SeqCst),
+			buffer,
+		);
+		let mut show = Self {
+			renderer: Renderer::new(shared.clone(), buffer, resources),
+			controllers,
+			clocks: vec![],
+			sends: vec![],
+			tracks: vec![],
+			scene: scene.clone(),
+		};
+		show.add_clocks();
+		show.add_sends();
+		show.add_tracks(&shared);
+		show.add_sounds(samples);
+		show
+	}
+
+	/// Renders the whole show. The output has question 10's length.
+	pub fn render(&mut self, out: &mut [f32]) {
+		let channels = self.scene.head.channels;
+		for (block, out) in out.chunks_mut(self.scene.head.block * channels).enumerate() {
+			self.write_orders(block);
+			self.renderer.on_start_processing();
+			self.renderer.process(out, channels as u16);
+		}
+	}
+
+	fn add_clocks(&mut self) {
+		for line in &self.scene.clocks {
+			let controller = &mut self.controllers.clock_controller;
+			let key = controller.try_reserve().expect("a place for a clock");
+			let speed = Value::Fixed(clock_speed(line.unit, line.speed));
+			let (clock, mut handle) = Clock::new(speed, ClockId(key));
+			if line.ticking {
+				handle.start();
+			}
+			controller.insert_with_key(key, clock);
+			self.clocks.push(handle);
+		}
+	}
+
+	fn add_sends(&mut self) {
+		for line in &self.scene.sends {
+			let controller = &mut self.controllers.send_track_controller;
+			let key = controller.try_reserve().expect("a place for a send track");
+			let builder = SendTrackBuilder::new().volume(decibels(line.volume));
+			let (track, handle) = builder.build(SendTrackId(key), self.scene.head.buffer);
+			controller.insert_with_key(key, track);
+			self.sends.push(handle);
+		}
+	}
+
+	fn add_tracks(&mut self, shared: &Arc<RendererShared>) {
+		for number in 1..=self.scene.tracks.len() {
+			let builder = self.track_builder(number);
+			let handle = match self.scene.tracks[number - 1].parent {
+				0 => {
+					let (track, handle) = builder.build(shared.clone(), self.scene.head.buffer);
+					let controller = &mut self.controllers.sub_track_controller;
+					controller.insert(track).expect("a place for a track");
+					handle
+				}
+				parent => {
+					(self.tracks[parent - 1].add_sub_track(builder)).expect("a place for a track")
+				}
+			};
+			self.tracks.push(handle);
+		}
+	}
+
+	fn track_builder(&self, number: usize) -> TrackBuilder {
+		let volume = decibels(self.scene.tracks[number - 1].volume);
+		let routes = self.scene.routes.iter();
+		routes
+			.filter(|route| route.track == number)
+			.fold(TrackBuilder::new().volume(volume), |builder, route| {
+				builder.with_send(&self.sends[route.send - 1], decibels(route.volume))
+			})
+	}
+
+	fn add_sounds(&mut self, samples: &[f32]) {
+		for line in &self.scene.sounds {
+			let sound = FramesSound::new(line, samples);
+			let played = match line.track {
+				0 => self.controllers.main_track_handle.play(sound),
+				track => self.tracks[track - 1].play(sound),
+			};
+			played.expect("a place for a sound");
+		}
+	}
+
+	/// In file order: the last of alike orders is the one that kira reads.
+	fn write_orders(&mut self, block: usize) {
+		for number in 0..self.scene.orders.len() {
+			let order = self.scene.orders[number];
+			if order.block == block {
+				self.write(&order);
+			}
+		}
+	}
+
+	fn write(&mut self, order: &Order) {
+		let start = self.start_time(order.start);
+		let tween = tween(order, start);
+		let volume = decibels(order.volume);
+		// Kind 0 names no line.
+		let line = order.index.saturating_sub(1);
+		match order.kind {
+			0 => (self.controllers.main_track_handle).set_volume(volume, tween),
+			1 => self.tracks[line].set_volume(volume, tween),
+			2 => self.sends[line].set_volume(volume, tween),
+			3 => self.write_route(line, volume, tween),
+			4 => self.tracks[line].pause(tween),
+			// The start belongs to the resume; its fade begins at once.
+			5 => self.tracks[line].resume_at(start, at_once(tween)),
+			kind => unreachable!("an accepted order has no kind {kind}"),
+		}
+	}
+
+	fn write_route(&mut self, line: usize, volume: Decibels, tween: Tween) {
+		let route = self.scene.routes[line];
+		let send = self.sends[route.send - 1].id();
+		self.tracks[route.track - 1]
+			.set_send(send, volume, tween)
+			.expect("the track has this route");
+	}
+
+	fn start_time(&self, start: Start) -> StartTime {
+		start_time(start, |clock| self.clocks[clock - 1].id())
+	}
+}
+
+pub(crate) fn decibels(volume: Volume) -> Decibels {
+	Decibels(volume as f32 / 1000.0)
+}
+
+pub(crate) fn clock_speed(unit: i32, speed: i32) -> ClockSpeed {
+	let speed = f64::from(speed) / 1000.0;
+	match unit {
+		0 => ClockSpeed::SecondsPerTick(speed),
+		1 => ClockSpeed::TicksPerSecond(speed),
+		_ => ClockSpeed::TicksPerMinute(speed),
+	}
+}
+
+pub(crate) fn easing(kind: i32, power: i32) -> Easing {
+	match kind {
+		0 => Easing::Linear,
+		1 => Easing::InPowi(power),
+		2 => Easing::OutPowi(power),
+		_ => Easing::InOutPowi(power),
+	}
+}
+
+pub(crate) fn start_time(start: Start, clock_id: impl Fn(usize) -> ClockId) -> StartTime {
+	match start {
+		Start::Immediate => StartTime::Immediate,
+		Start::Delay { millis } => StartTime::Delayed(Duration::from_millis(millis)),
+		Start::ClockTime { clock, tick, part } => StartTime::ClockTime(ClockTime {
+			clock: clock_id(clock),
+			ticks: tick,
+			fraction: f64::from(part) / 1000.0,
+		}),
+	}
+}
+
+pub(crate) fn tween(order: &Order, start_time: StartTime) -> Tween {
+	Tween {
+		start_time,
+		duration: Duration::from_millis(order.millis),
+		easing: easing(order.easing, order.power),
+	}
+}
+
+pub(crate) fn at_once(tween: Tween) -> Tween {
+	Tween {
+		start_time: StartTime::Immediate,
+		..tween
+	}
+}
+
+/// Frames in turn, then zeros. Never finished: our scenes remove nothing.
+struct FramesSound {
+	frames: Vec<Frame>,
+	next: usize,
+}
+
+impl FramesSound {
+	fn new(line: &SoundLine, samples: &[f32]) -> Self {
+		let played = &samples[2 * line.first..2 * (line.first + line.count)];
+		Self {
+			frames: played.chunks(2).map(|f| Frame::new(f[0], f[1])).collect(),
+			next: 0,
+		}
+	}
+}
+
+impl SoundData for FramesSound {
+	type Error = Infallible;
+	type Handle = ();
+
+	fn into_sound(self) -> Result<(Box<dyn Sound>, ()), Infallible> {
+		Ok((Box::new(self), ()))
+	}
+}
+
+impl Sound for FramesSound {
+	fn process(&mut self, out: &mut [Frame], _dt: f64, _info: &Info) {
+		let count = out.len().min(self.frames.len() - self.next);
+		let (played, silent) = out.split_at_mut(count);
+		played.copy_from_slice(&self.frames[self.next..self.next + count]);
+		silent.fill(Frame::ZERO);
+		self.next += count;
+	}
+
+	fn finished(&self) -> bool {
+		false
+	}
+}

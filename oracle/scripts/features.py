@@ -1,0 +1,59 @@
+"""What the generated scenes must have examples of."""
+import scenes
+
+VOLUMES = (-96000, -60001, -60000, -59999, 0, 18000)
+EASINGS = [(0, 0)] + [(easing, power) for easing in (1, 2, 3) for power in range(1, 9)]
+KINDS = range(6)
+ALL = (
+    [f"depth {n}" for n in range(1, scenes.DEEPEST + 1)]
+    + [f"channels {n}" for n in range(1, 9)]
+    + [f"volume {n}" for n in VOLUMES]
+    + [f"easing {easing} power {power}" for easing, power in EASINGS]
+    + [f"order kind {kind}, {start}" for kind in KINDS for start in ("at once", "delayed", "by a clock")]
+    + ["order of 0 ms", "alike orders in one block", "pause and resume in one block"]
+    + ["buffer does not divide block", "route", "clock that does not tick", "sound on the main track"]
+    + ["sound without frames", "sound that ends inside a chunk", "32 tracks", "128 orders", "64 sounds"]
+)
+
+
+def of(scene):
+    """Each feature once, so that a count of them is one of scenes."""
+    return {*of_head(scene), *of_tables(scene), *of_orders(scene)}
+
+
+def of_head(scene):
+    _, channels, buffer, block, _, _ = scene.head[0]
+    yield f"channels {channels}"
+    if block % buffer:
+        yield "buffer does not divide block"
+
+
+def of_tables(scene):
+    for line in range(1, len(scene.tracks) + 1):
+        yield f"depth {scenes.depth(scene.tracks, line)}"
+    volumes = {row[-1] for name in ("head", "tracks", "sends", "routes") for row in scene.tables[name]}
+    yield from (f"volume {volume}" for volume in volumes if volume in VOLUMES)
+    found = {
+        "route": scene.routes,
+        "clock that does not tick": any(not ticking for _, _, ticking in scene.clocks),
+        "sound on the main track": any(track == 0 for track, _, _ in scene.sounds),
+        "sound without frames": any(count == 0 for _, _, count in scene.sounds),
+        "sound that ends inside a chunk": any(count % scene.head[0][2] for _, _, count in scene.sounds),
+        "32 tracks": len(scene.tracks) == 32,
+        "128 orders": len(scene.orders) == 128,
+        "64 sounds": len(scene.sounds) == 64,
+    }
+    yield from (name for name, holds in found.items() if holds)
+
+
+def of_orders(scene):
+    for _, kind, _, _, clock, when, _, millis, easing, power in scene.orders:
+        yield f"easing {easing} power {power}"
+        yield f"order kind {kind}, {'by a clock' if clock else 'delayed' if when else 'at once'}"
+        if millis == 0:
+            yield "order of 0 ms"
+    alike = [tuple(row[:3]) for row in scene.orders]
+    if len(set(alike)) < len(alike):
+        yield "alike orders in one block"
+    if any((block, 9 - kind, index) in alike for block, kind, index in alike if kind == 4):
+        yield "pause and resume in one block"

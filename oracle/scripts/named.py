@@ -1,0 +1,533 @@
+#!/usr/bin/env python3
+"""The stored scenes: document 01's rows that need a scene, and each behaviour
+that is easy to get wrong.
+
+    named.py    writes scene.txt and samples.raw into oracle/scenes/NAME
+
+Each scene comes with a test of its output, so that it shows what its name
+says. Most have chunks of 8 frames, 1 ms long, one to a block, in one channel.
+"""
+import pathlib
+
+from tables import Scene, bits, number
+
+FOLDER = pathlib.Path(__file__).parent.parent / "scenes"
+SILENCE = -60000
+FOREVER = 3_600_000
+MAIN, TRACK, SEND, ROUTE, PAUSE, RESUME = range(6)
+NAMED = {}
+
+
+def named(function):
+    """A function that returns a scene and a test of its output, which is
+    given as the values of each chunk in the first channel."""
+    NAMED[function.__name__.replace("_", "-")] = function
+    return function
+
+
+def ramp(frames):
+    """Frame i is (i + 1)/1024 on both sides: its value tells its place."""
+    return [bits((i + 1) / 1024) for i in range(frames) for _ in range(2)]
+
+
+def place(value):
+    return round(value * 1024) - 1
+
+
+def steady(frames, value=0.5):
+    return [bits(value)] * (2 * frames)
+
+
+def order(block, kind, index, volume=0, clock=0, when=0, part=0, millis=0, easing=0, power=0):
+    return [block, kind, index, volume, clock, when, part, millis, easing, power]
+
+
+def show(blocks=10, samples=None, rate=8000, channels=1, buffer=8, block=None, volume=0, **tables):
+    """One track with one sound that plays all samples, where not said."""
+    block = buffer if block is None else block
+    samples = ramp(blocks * block) if samples is None else samples
+    tables.setdefault("tracks", [[0, 0]])
+    tables.setdefault("sounds", [[1, 0, len(samples) // 2]])
+    return Scene(head=[[rate, channels, buffer, block, blocks, volume]], samples=samples, **tables)
+
+
+def chunks(scene, output):
+    """The first channel's values, chunk by chunk."""
+    _, channels, buffer, block, _, _ = scene.head[0]
+    values = [number(b) for b in output[::channels]]
+    blocks = [values[i : i + block] for i in range(0, len(values), block)]
+    return [b[i : i + buffer] for b in blocks for i in range(0, block, buffer)]
+
+
+def silent(chunk):
+    return not any(chunk)
+
+
+def still(chunk):
+    return len(set(chunk)) == 1
+
+
+def used_up(chunks, n):
+    """How many frames of a ramp were used up when chunk n began."""
+    return place(chunks[n][0])
+
+
+# Document 01's rows, at its rate and buffer.
+
+ROW = dict(rate=8192, buffer=128)
+
+
+@named
+def row_sample_scene():
+    samples = [bits(x) for x in (0.5, -0.25, 1.0, 0.0)]
+    return show(1, samples, channels=2, block=2, **ROW), lambda c: c == [[0.5, 1.0]]
+
+
+@named
+def row_linear_pause():
+    scene = show(8, steady(1024), orders=[order(0, PAUSE, 1, millis=125)], **ROW)
+    return scene, lambda c: silent(c[7]) and not silent(c[6])
+
+
+@named
+def row_delayed_resume():
+    """Counted from the order, chunk 8 uses up half of the 256 frames without
+    a sound, and the fade moves in chunk 9, which plays the rest."""
+    orders = [order(0, PAUSE, 1), order(1, RESUME, 1, when=125, millis=125)]
+    scene = show(11, steady(256), orders=orders, **ROW)
+    return scene, lambda c: all(map(silent, c[:9])) and not silent(c[9]) and silent(c[10])
+
+
+@named
+def row_delayed_volume():
+    scene = show(10, steady(1280), orders=[order(0, TRACK, 1, -6000, when=125, millis=125)], **ROW)
+    return scene, lambda c: still(c[7]) and c[7] == c[0] and not still(c[8])
+
+
+def doubled(channels):
+    """Left 2.0 and right 0.0, of two sounds."""
+    samples = [bits(1.0), bits(0.0)]
+    return show(1, samples, channels=channels, block=1, sounds=[[0, 0, 1]] * 2, **ROW)
+
+
+@named
+def row_one_channel():
+    return doubled(1), lambda c: c == [[0.5]]
+
+
+@named
+def row_three_channels():
+    return doubled(3), lambda c: c == [[1.0]]
+
+
+@named
+def row_routed_track():
+    scene = show(1, steady(1), block=1, sends=[[0]], routes=[[1, 1, 0]], **ROW)
+    return scene, lambda c: c == [[1.0]]
+
+
+@named
+def row_send_below_silence():
+    tracks, sounds = [[0, SILENCE], [1, 0]], [[2, 0, 1]]
+    scene = show(1, steady(1), block=1, tracks=tracks, sounds=sounds, sends=[[0]], routes=[[2, 1, 0]], **ROW)
+    return scene, lambda c: c == [[0.5]]
+
+
+def chain(depth):
+    tracks = [[i, 0] for i in range(depth)]
+    return show(1, steady(1), block=1, tracks=tracks, sounds=[[depth, 0, 1]], **ROW)
+
+
+@named
+def row_depth_4():
+    return chain(4), lambda c: c == [[0.5]]
+
+
+@named
+def row_depth_5():
+    return chain(5), 6
+
+
+@named
+def row_volume_18000():
+    return show(1, steady(1, 1 / 64), block=1, tracks=[[0, 18000]], **ROW), lambda c: 0.12 < c[0][0] < 0.13
+
+
+@named
+def row_volume_18001():
+    return show(1, steady(1), block=1, tracks=[[0, 18001]], **ROW), 4
+
+
+@named
+def row_32_tracks():
+    scene = show(1, steady(1, 1 / 64), block=1, tracks=[[0, 0]] * 32, sounds=[[t, 0, 1] for t in range(1, 33)], **ROW)
+    return scene, lambda c: c == [[0.5]]
+
+
+@named
+def row_33_tracks():
+    return show(1, steady(1), block=1, tracks=[[0, 0]] * 33, **ROW), 3
+
+
+# Chunk time. How long a pause's fade took is told by the frames used up.
+
+
+def pause_and_resume(millis, paused_by, **head):
+    """A pause, a resume by block `paused_by`, and two chunks after it."""
+    orders = [order(0, PAUSE, 1, millis=millis), order(paused_by, RESUME, 1)]
+    return show(paused_by + 2, orders=orders, **head)
+
+
+def fade_took(chunk, buffer):
+    """The chunk that ends a fade uses up no frames; the resume's first does."""
+    return lambda c: used_up(c, -1) == (chunk - 1 + 1) * buffer
+
+
+@named
+def fade_of_3_chunks_ends_in_chunk_3():
+    return pause_and_resume(27, 5, buffer=72), fade_took(3, 72)
+
+
+@named
+def fade_of_7_chunks_ends_in_chunk_8():
+    return pause_and_resume(21, 9, buffer=24), fade_took(8, 24)
+
+
+@named
+def chunk_time_is_a_product():
+    """14 / 8400 three times is 5 ms; (1.0 / 8400) * 14 three times is less."""
+    return pause_and_resume(5, 6, rate=8400, buffer=14), fade_took(4, 14)
+
+
+# Delays.
+
+
+def delayed_volume(millis, blocks, **head):
+    scene = show(blocks, steady(blocks * head["buffer"]), **head)
+    scene.tables["orders"] = [order(0, TRACK, 1, SILENCE, when=millis, millis=1)]
+    return scene
+
+
+def moves_first_in(chunk):
+    return lambda c: all(x == c[0][0] for part in c[: chunk - 1] for x in part) and c[chunk - 1][-1] != c[0][0]
+
+
+@named
+def delay_nanoseconds_tie():
+    """976562.5 ns a chunk are 976562: 128 chunks do not use up 125 ms."""
+    return delayed_volume(125, 131, rate=8192, buffer=8), moves_first_in(130)
+
+
+@named
+def delay_nanoseconds_of_the_exact_value():
+    """1 / 25600 s are 39063 ns; times 1e9 in f64 they would be 39062.5."""
+    return delayed_volume(5, 131, rate=25600, buffer=1), moves_first_in(129)
+
+
+@named
+def delay_of_a_volume():
+    scene = show(8, steady(64), orders=[order(0, TRACK, 1, -20000, when=3, millis=4)])
+    return scene, moves_first_in(4)
+
+
+@named
+def delay_of_a_route():
+    orders = [order(0, ROUTE, 1, -20000, when=3, millis=4)]
+    scene = show(8, steady(64, 0.25), sends=[[0]], routes=[[1, 1, 0]], orders=orders)
+    return scene, moves_first_in(4)
+
+
+@named
+def delay_of_a_pause():
+    """It is `Pausing` at once and plays on; the fade moves in chunk 4."""
+    scene = show(8, steady(64), orders=[order(0, PAUSE, 1, when=3, millis=3)])
+    return scene, lambda c: moves_first_in(4)(c) and silent(c[5])
+
+
+@named
+def delay_of_a_resume():
+    """The chunk that uses the delay up advances, at the standing fade."""
+    orders = [order(0, PAUSE, 1), order(1, RESUME, 1, when=3, millis=1)]
+    scene = show(8, orders=orders)
+    return scene, lambda c: all(map(silent, c[:4])) and c[4][-1] != 0 and used_up(c, 5) == 16
+
+
+# Clocks.
+
+
+def clocked_volume(ticking, tick):
+    orders = [order(0, TRACK, 1, -20000, clock=1, when=tick, millis=2)]
+    return show(6, steady(48), clocks=[[1, 1_000_000, ticking]], orders=orders)
+
+
+@named
+def clock_moves_before_mixing():
+    """A tick a chunk: tick 1 is reached in chunk 1 already."""
+    return clocked_volume(1, 1), lambda c: not still(c[0])
+
+
+@named
+def clock_fraction():
+    orders = [order(0, TRACK, 1, -20000, clock=1, when=0, part=500, millis=2)]
+    scene = show(6, steady(48), clocks=[[1, 200_000, 1]], orders=orders)
+    return scene, moves_first_in(3)
+
+
+@named
+def clock_that_does_not_tick():
+    return clocked_volume(0, 0), lambda c: all(x == c[0][0] for part in c for x in part)
+
+
+@named
+def clock_resumes_a_track():
+    orders = [order(0, PAUSE, 1), order(0, RESUME, 1, clock=1, when=3)]
+    scene = show(6, clocks=[[0, 1, 1]], orders=orders)
+    return scene, lambda c: all(map(silent, c[:3])) and used_up(c, 4) == 16
+
+
+# Volumes.
+
+
+@named
+def volume_order_of_0_millis():
+    scene = show(4, steady(32), orders=[order(1, TRACK, 1, -20000)])
+    return scene, lambda c: len(set(c[1])) == 8 and still(c[2]) and c[2][0] == c[1][-1]
+
+
+@named
+def volume_order_of_0_millis_last_bit():
+    """From 4.004 dB the last frame stands at -59.999996 dB, which sounds."""
+    scene = show(3, steady(24), tracks=[[0, 4004]], orders=[order(1, TRACK, 1, SILENCE)])
+    return scene, lambda c: c[1][-1] != 0 and silent(c[2])
+
+
+# Pauses.
+
+
+@named
+def pause_of_0_millis():
+    scene = show(6, orders=[order(1, PAUSE, 1), order(3, RESUME, 1)])
+    return scene, lambda c: silent(c[1]) and silent(c[2]) and used_up(c, 4) == 16
+
+
+@named
+def pause_last_chunk_uses_no_frames():
+    return pause_and_resume(3, 5, buffer=8), fade_took(3, 8)
+
+
+@named
+def pause_that_waits_plays():
+    orders = [order(1, PAUSE, 1, when=2, millis=2), order(6, RESUME, 1)]
+    return show(9, orders=orders), lambda c: used_up(c, 1) == 8 and used_up(c, 2) == 16 and used_up(c, 7) == 40
+
+
+# Alike orders, and a pause and a resume in one block.
+
+
+@named
+def earlier_alike_order_leaves_no_trace():
+    orders = [order(1, TRACK, 1, -20000), order(1, TRACK, 1, -6000, when=FOREVER, millis=1)]
+    return show(5, steady(40), orders=orders), lambda c: all(x == 0.5 for part in c for x in part)
+
+
+@named
+def resume_after_pause_in_one_block():
+    """The resume wins although its line stands first."""
+    orders = [order(1, RESUME, 1, millis=2), order(1, PAUSE, 1)]
+    return show(5, orders=orders), lambda c: used_up(c, 3) == 24
+
+
+@named
+def delayed_resume_leaves_the_fade_running():
+    """The pause's fade has reached -30 dB when the resume begins."""
+    orders = [order(0, PAUSE, 1, millis=4), order(0, RESUME, 1, when=2, millis=2)]
+    return show(6, steady(48), orders=orders), lambda c: silent(c[0]) and 0.01 < c[1][-1] < 0.03
+
+
+# Fades that meet other orders.
+
+
+@named
+def waiting_order_holds_a_fade():
+    orders = [order(0, TRACK, 1, SILENCE, millis=8), order(3, TRACK, 1, 0, when=FOREVER, millis=1)]
+    return show(8, steady(64), orders=orders), lambda c: not still(c[2]) and all(still(x) and x == c[3] for x in c[3:])
+
+
+@named
+def new_order_starts_from_the_value_reached():
+    orders = [order(0, TRACK, 1, SILENCE, millis=8), order(4, TRACK, 1, 0, millis=8)]
+    return show(8, steady(64), orders=orders), lambda c: c[3][-1] < c[4][0] < c[4][-1] < 0.1
+
+
+# Pauses and resumes of tracks that are paused or play.
+
+
+@named
+def second_pause_advances():
+    """Its sounds are used up, and the send from below sounds for 3 chunks."""
+    tracks, sounds = [[0, 0], [1, 0]], [[1, 0, 80], [2, 0, 80]]
+    orders = [order(0, PAUSE, 1), order(2, PAUSE, 1, millis=4), order(7, RESUME, 1)]
+    scene = show(10, tracks=tracks, sounds=sounds, sends=[[0]], routes=[[2, 1, 0]], orders=orders)
+    return scene, lambda c: silent(c[1]) and all(map(all, c[2:5])) and silent(c[5])
+
+
+@named
+def delayed_resume_stops_a_playing_track():
+    scene = show(8, orders=[order(1, RESUME, 1, when=3)])
+    return scene, lambda c: silent(c[1]) and silent(c[2]) and used_up(c, 3) == 8
+
+
+@named
+def delayed_resume_lets_the_fade_go_on():
+    orders = [order(0, PAUSE, 1, millis=8), order(2, RESUME, 1, when=3, millis=2)]
+    return show(10, steady(80), orders=orders), lambda c: silent(c[2]) and silent(c[3]) and 0 < c[4][-1] < c[1][-1] / 5
+
+
+# Tracks that stand still.
+
+
+@named
+def orders_are_read_below_a_paused_track():
+    """Each in its block: read together, the resume would win over the pause."""
+    orders = [order(0, PAUSE, 1), order(1, RESUME, 2), order(2, PAUSE, 2)]
+    orders += [order(4, RESUME, 1), order(6, RESUME, 2)]
+    scene = show(8, tracks=[[0, 0], [1, 0]], sounds=[[2, 0, 64]], orders=orders)
+    return scene, lambda c: silent(c[5]) and used_up(c, 7) == 8
+
+
+@named
+def order_below_a_paused_track_waits_for_it():
+    """The inner order begins only when the outer track advances again."""
+    orders = [order(0, PAUSE, 1), order(1, TRACK, 2, SILENCE, millis=2), order(4, RESUME, 1)]
+    scene = show(8, steady(64), tracks=[[0, 0], [1, 0]], sounds=[[2, 0, 64]], orders=orders)
+    return scene, lambda c: c[4][-1] != 0 and c[5][0] != 0 and silent(c[6])
+
+
+@named
+def nothing_moves_below_a_paused_track():
+    """An inner fade of 4 ms waits where it was after 2."""
+    orders = [order(0, TRACK, 2, SILENCE, millis=4), order(2, PAUSE, 1), order(6, RESUME, 1)]
+    scene = show(10, steady(80), tracks=[[0, 0], [1, 0]], sounds=[[2, 0, 80]], orders=orders)
+    return scene, lambda c: c[6][-1] != 0 and c[7][0] != 0 and silent(c[8])
+
+
+@named
+def paused_track_moves_its_own_volume():
+    orders = [order(0, PAUSE, 1), order(0, TRACK, 1, SILENCE, millis=3), order(4, RESUME, 1)]
+    return show(8, steady(64), orders=orders), lambda c: all(map(silent, c))
+
+
+@named
+def paused_track_moves_its_own_routes():
+    """The send is silent by the time the track sounds again."""
+    orders = [order(0, PAUSE, 1), order(0, ROUTE, 1, SILENCE, millis=3), order(4, RESUME, 1)]
+    scene = show(8, steady(64, 0.25), sends=[[0]], routes=[[1, 1, 0]], orders=orders)
+    return scene, lambda c: c[5] == [0.25] * 8
+
+
+@named
+def paused_track_moves_its_own_fade():
+    """A resume that waits stops nothing of the pause's fade above it."""
+    orders = [order(0, PAUSE, 1, millis=3), order(1, RESUME, 1, when=4, millis=1)]
+    return show(8, steady(64), orders=orders), lambda c: silent(c[1]) and silent(c[3]) and c[5][0] < 0.01 < c[5][-1]
+
+
+# Mixing.
+
+
+@named
+def volume_and_fade_are_multiplied_first():
+    """Uneven samples, whose products round."""
+    samples = [bits(((i * 7919) % 1000 - 500) / 1013) for i in range(128)]
+    orders = [order(0, PAUSE, 1, millis=9, easing=2, power=3), order(0, TRACK, 1, -7001, millis=9, easing=1, power=2)]
+    return show(8, samples, tracks=[[0, -3300]], orders=orders), lambda c: not silent(c[6])
+
+
+@named
+def route_uses_the_value_at_the_chunk_end():
+    orders = [order(1, ROUTE, 1, -20000, millis=4)]
+    scene = show(6, steady(48, 0.25), sends=[[0]], routes=[[1, 1, 0]], orders=orders)
+    return scene, lambda c: all(map(still, c)) and len({part[0] for part in c[:5]}) == 5
+
+
+@named
+def send_input_in_the_order_of_finishing():
+    """0.25 meets two halves of its last bit: only if they come first do they count."""
+    tiny = 2.0**-26
+    samples = [bits(x) for x in (0.25, 0.25, tiny, tiny, -0.25, -0.25)]
+    tracks = [[0, 0], [1, 0], [0, 0], [0, 0]]
+    sounds = [[1, 0, 1], [2, 1, 1], [3, 1, 1], [4, 2, 1]]
+    routes = [[1, 1, 0], [2, 1, 0], [3, 1, 0]]
+    scene = show(1, samples, block=1, tracks=tracks, sounds=sounds, sends=[[0]], routes=routes)
+    return scene, lambda c: c == [[0.25 + 2.0**-24]]
+
+
+@named
+def sounds_latest_line_first():
+    """Halves of the last bit again; the latest line is added first."""
+    tiny = 2.0**-26
+    samples = [bits(x) for x in (0.25, 0.25, tiny, tiny)]
+    sounds = [[1, 0, 1], [1, 1, 1], [1, 1, 1]]
+    return show(1, samples, block=1, sounds=sounds), lambda c: c == [[0.25 + 2.0**-25]]
+
+
+@named
+def short_last_chunk():
+    """Blocks of 11 frames: 8, then 3, each with its own length as n."""
+    scene = show(2, steady(22), block=11, orders=[order(0, TRACK, 1, SILENCE, millis=1)])
+    return scene, lambda c: c[0][-1] == 0 and silent(c[1])
+
+
+@named
+def short_chunk_slides_over_its_own_length():
+    scene = show(3, steady(33), block=11, orders=[order(1, TRACK, 1, -20000, when=1, millis=1)])
+    return scene, lambda c: still(c[2]) and len(set(c[3])) == 3 and c[3][-1] != c[3][0]
+
+
+@named
+def sound_ends_inside_a_chunk():
+    sounds = [[1, 0, 5], [1, 3, 0], [1, 8, 0]]
+    return show(2, ramp(8), sounds=sounds), lambda c: all(c[0][:5]) and silent(c[0][5:]) and silent(c[1])
+
+
+def negative_zero(channels, **tables):
+    return show(1, steady(1, tables.pop("value", -0.5)), channels=channels, block=1, **tables)
+
+
+def is_negative_zero(c):
+    return bits(c[0][0]) == 0x80000000
+
+
+@named
+def main_track_at_silence_keeps_the_sign():
+    return negative_zero(3, volume=SILENCE), is_negative_zero
+
+
+@named
+def main_track_at_silence_keeps_the_sign_in_one_channel():
+    return negative_zero(1, volume=SILENCE), is_negative_zero
+
+
+@named
+def sums_start_at_zero():
+    """A lone -0.0 does not survive."""
+    return negative_zero(2, value=-0.0), lambda c: bits(c[0][0]) == 0
+
+
+@named
+def folding_after_clamping():
+    samples = [bits(x) for x in (1.0, -0.5)]
+    return show(1, samples, block=1, sounds=[[0, 0, 1]] * 2), lambda c: c == [[0.0]]
+
+
+def write_all():
+    for name, function in NAMED.items():
+        scene, _ = function()
+        folder = FOLDER / name
+        folder.mkdir(parents=True, exist_ok=True)
+        (folder / "scene.txt").write_bytes(scene.text())
+        (folder / "samples.raw").write_bytes(scene.sample_bytes())
+
+
+if __name__ == "__main__":
+    write_all()
