@@ -1,0 +1,21 @@
+-- kira's clock/clock_speed.rs.
+use mathlib.Core.Bool.{Bool, _&&_}
+use Prim.Native.Nat.{ℕ}
+use lib.IntN.{pos}
+use lib.Ieee.{Float, binary64, div, le, ofInt}
+use Rattle.clock.specs.declared.clock_speed.ClockSpeed.{ClockSpeed}
+use Rattle.clock.specs.declared.clock_speed.ClockSpeed.the-variants.{SecondsPerTick, TicksPerSecond, TicksPerMinute}
+
+-- a whole number as an f64
+abbrev pub whole : ℕ → Float
+whole n = ofInt binary64 (pos n)
+
+unfoldable pub asTicksPerSecond : ClockSpeed → Float
+asTicksPerSecond (SecondsPerTick s) = div binary64 (whole 1) s
+asTicksPerSecond (TicksPerSecond t) = t
+asTicksPerSecond (TicksPerMinute m) = div binary64 m (whole 60)
+
+-- 01's range for a speed: 0 to 1000 ticks per second
+unfoldable pub allowedSpeed : ClockSpeed → Bool
+unfolding asTicksPerSecond
+allowedSpeed s = le (whole 0) (asTicksPerSecond s) && le (asTicksPerSecond s) (whole 1000)
