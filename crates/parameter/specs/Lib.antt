@@ -1,0 +1,4 @@
+pub mod Parameter
+pub mod ParameterLaws
+pub mod Rows
+pub mod Settled

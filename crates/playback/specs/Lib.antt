@@ -1,0 +1,4 @@
+pub mod PlaybackStateManager
+pub mod PlaybackStateManagerLaws
+pub mod Rows
+pub mod Settled

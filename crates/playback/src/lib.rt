@@ -1,0 +1,6 @@
+// The states of playback: kira's playback_state_manager.rs.
+mod playback_state_manager;
+
+pub use playback_state_manager::PlaybackState;
+pub use playback_state_manager::PlaybackStateManager;
+pub use playback_state_manager::PlaybackUpdate;
