@@ -1,6 +1,5 @@
 -- parameter.rs, for decibels and fixed targets.
 use mathlib.Core.Bool.{Bool, true, false, cond}
-use Prim.Native.Nat.{ℕ}
 use lib.Dec.{eqb}
 use lib.Ieee.{Float, binary64, add, le}
 use Rattle.laws.specs.FloatLiteral.{posZero}

@@ -1,17 +1,16 @@
 -- What a parameter keeps to: the ranges of its values, what is read of it within a chunk, and that a value which stands still has one amplitude.
 -- Assumes nothing.
 use mathlib.Core.Path.{_≡_, refl, sym, ap, _∙_, subst}
-use mathlib.Core.Logic.{_⊎_, inl, inr}
-use mathlib.Core.Bool.{Bool, true, false, cond, not, _&&_}
+use mathlib.Core.Logic.{inl, inr}
+use mathlib.Core.Bool.{Bool, true, false, cond, not}
 use Prim.Native.Nat.{ℕ, _<_, _^_}
-use native.Mathlib.Nat.{eq-zero-or-pos}
 use native.Mathlib.Omega.{arith}
 use lib.Dec.{T, eqb}
-use lib.Ieee.{Float, binary32, binary64, add, le, neg, ofInt, isNan}
+use lib.Ieee.{Float, binary64, add, le, neg, ofInt, isNan}
 use lib.Ieee.Fits.{and-i}
 use borrow.Author.Tests.{eqb-false}
 use Rattle.laws.specs.Float.{zero-of}
-use Rattle.laws.specs.Choice.{cond-true, cond-false}
+use Rattle.laws.specs.Choice.{cond-true}
 use Rattle.laws.specs.FloatLiteral.{posZero}
 use Rattle.laws.specs.Amount.{InUnit, unsigned, add-unsigned}
 use Rattle.laws.specs.DecibelRange.{TargetRange, ValueRange, ReadRange, SilentRange, target→value, value→read, read-number, read-most, read-not-nan, silent-most}
@@ -24,7 +23,7 @@ use Rattle.tween.specs.declared.start_time.StartTime.{StartTime}
 use Rattle.tween.specs.declared.start_time.StartTime.the-variants.{Immediate, Delayed, ClockTime}
 use Rattle.tween.specs.declared.tween.Tween.{Tween}
 use Rattle.tween.specs.Tween.{tweenValue}
-use Rattle.tween.specs.TweenLaws.{Within, within-start, within-step, no-length-ends, tween-amount}
+use Rattle.tween.specs.TweenLaws.{TimeWithin, within-start, within-step, no-length-ends, tween-amount}
 use Rattle.tween.specs.Tweenable.{interpolated}
 use Rattle.tween.specs.TweenableLaws.{interpolated-moves, interpolated-read, interpolated-silent, interpolated-still}
 use Rattle.parameter.specs.declared.parameter.ParameterState.{ParameterState}
@@ -57,10 +56,10 @@ Short tween = tween .duration < 2 ^ 53
 
 abbrev pub StateIn : Range → ParameterState → Type 0
 StateIn R (Idle value) = R .Value (value .0)
-StateIn R (Tweening start target time tween) = R .Value (start .0) × R .Target (target .0) × Within time (tween .duration) × Short tween
+StateIn R (Tweening start target time tween) = R .Value (start .0) × R .Target (target .0) × TimeWithin time (tween .duration) × Short tween
 
 -- a parameter stays within a range
-pub record In (R : Range) (p : Parameter) : Type 0 where
+pub record ParameterIn (R : Range) (p : Parameter) : Type 0 where
   pub value : R .Value (p .«raw_value» .0)
   pub previous : R .Value (p .«previous_raw_value» .0)
   pub state : StateIn R (p .state)
@@ -81,25 +80,25 @@ tween-start-duration tween dt clocks = go (tween .«start_time»)
     go (ClockTime t) = unfold startedAt in refl
 
 module _ (R : Range) where
-  pub new-in : (value : Decibels) → R .Value (value .0) → In R (parameterNew value)
+  pub new-in : (value : Decibels) → R .Value (value .0) → ParameterIn R (parameterNew value)
   unfolding parameterNew
   new-in value h = record { value = h; previous = h; state = h }
 
-  pub set-in : (p : Parameter) (target : Decibels) (tween : Tween) → In R p → R .Target (target .0) → Short tween → In R (parameterSet p target tween)
+  pub set-in : (p : Parameter) (target : Decibels) (tween : Tween) → ParameterIn R p → R .Target (target .0) → Short tween → ParameterIn R (parameterSet p target tween)
   unfolding parameterSet
   set-in p target tween h k s = record { value = h .value; previous = h .previous; state = (h .value, k, within-start (tween .duration), s) }
 
-  with-state-in : (p : Parameter) (state : ParameterState) (stagnant : Bool) → In R p → StateIn R state → In R (withState p state stagnant)
+  with-state-in : (p : Parameter) (state : ParameterState) (stagnant : Bool) → ParameterIn R p → StateIn R state → ParameterIn R (withState p state stagnant)
   unfolding withState
   with-state-in p state stagnant h k = record { value = h .value; previous = h .previous; state = k }
 
   -- an update that goes by a test
-  either-in : (b : Bool) (x y : ParameterUpdate) → (b ≡ true → In R (x .parameter)) → (b ≡ false → In R (y .parameter)) → In R (cond b x y .parameter)
+  either-in : (b : Bool) (x y : ParameterUpdate) → (b ≡ true → ParameterIn R (x .parameter)) → (b ≡ false → ParameterIn R (y .parameter)) → ParameterIn R (cond b x y .parameter)
   either-in true x y h k = h refl
   either-in false x y h k = k refl
 
-  tween-move-in : (p : Parameter) (start target : Decibels) (time dt : Float) (tween : Tween) → In R p → R .Value (start .0) → R .Target (target .0) → T (unsigned time) → T (unsigned dt) → Short tween
-      → In R (tweenMove p start target (add binary64 time dt) tween .parameter)
+  tween-move-in : (p : Parameter) (start target : Decibels) (time dt : Float) (tween : Tween) → ParameterIn R p → R .Value (start .0) → R .Target (target .0) → T (unsigned time) → T (unsigned dt) → Short tween
+      → ParameterIn R (tweenMove p start target (add binary64 time dt) tween .parameter)
   unfolding tweenMove
   tween-move-in p start target time dt tween h v k u w s =
       let now = add binary64 time dt in
@@ -107,7 +106,7 @@ module _ (R : Range) where
       (record { parameter = withState p (Tweening start target now tween) (p .stagnant); «just_finished_tween» = false }) (λ e. with-state-in p (Idle target) true h (R .reached target k))
       (λ e. with-state-in p (Tweening start target now tween) (p .stagnant) h (v, k, within-step time dt (tween .duration) u w e, s))
 
-  tween-update-in : (state : ParameterState) (p : Parameter) (dt : Float) (clocks : Clocks) → T (unsigned dt) → In R p → StateIn R state → In R (tweenUpdateIn state p dt clocks .parameter)
+  tween-update-in : (state : ParameterState) (p : Parameter) (dt : Float) (clocks : Clocks) → T (unsigned dt) → ParameterIn R p → StateIn R state → ParameterIn R (tweenUpdateIn state p dt clocks .parameter)
   unfolding tweenUpdateIn
   tween-update-in (Idle value) p dt clocks w h k = h
   tween-update-in (Tweening start target time tween) p dt clocks w h k =
@@ -117,7 +116,7 @@ module _ (R : Range) where
       either-in (begun .started) (tweenMove p start target (add binary64 time dt) (begun .tween))
       (record { parameter = withState p (Tweening start target time (begun .tween)) (p .stagnant); «just_finished_tween» = false })
       (λ e. tween-move-in p start target time dt (begun .tween) h (k .0) (k .1) (k .2 .sign) w short)
-      (λ e. with-state-in p (Tweening start target time (begun .tween)) (p .stagnant) h (k .0, k .1, subst (λ (n : ℕ). Within time n) (sym same) (k .2), short))
+      (λ e. with-state-in p (Tweening start target time (begun .tween)) (p .stagnant) h (k .0, k .1, subst (λ (n : ℕ). TimeWithin time n) (sym same) (k .2), short))
 
   value-in : (state : ParameterState) (now : Decibels) → StateIn R state → R .Value (now .0) → R .Value (valueIn state now .0)
   unfolding valueIn
@@ -130,15 +129,15 @@ module _ (R : Range) where
           let some = eqb-false (tween .duration) 0 e in
           R .moves start target (tweenValue tween time) (tween-amount tween time (omega arith) (k .3) (k .2)) (k .0) (k .1)
 
-  with-new-value-in : (u : ParameterUpdate) → In R (u .parameter) → In R (withNewValue u .parameter)
+  with-new-value-in : (u : ParameterUpdate) → ParameterIn R (u .parameter) → ParameterIn R (withNewValue u .parameter)
   unfolding withNewValue newRawValue
   with-new-value-in u h = record { value = value-in (u .parameter .state) (u .parameter .«raw_value») (h .state) (h .value); previous = h .previous; state = h .state }
 
-  with-previous-in : (p : Parameter) → In R p → In R (withPrevious p)
+  with-previous-in : (p : Parameter) → ParameterIn R p → ParameterIn R (withPrevious p)
   unfolding withPrevious
   with-previous-in p h = record { value = h .value; previous = h .value; state = h .state }
 
-  pub update-in : (p : Parameter) (dt : Float) (clocks : Clocks) → T (unsigned dt) → In R p → In R (parameterUpdate p dt clocks .parameter)
+  pub update-in : (p : Parameter) (dt : Float) (clocks : Clocks) → T (unsigned dt) → ParameterIn R p → ParameterIn R (parameterUpdate p dt clocks .parameter)
   unfolding parameterUpdate tweenUpdate
   update-in p dt clocks w h =
       let before = with-previous-in p h in
@@ -200,16 +199,16 @@ set-at-once p target tween dt clocks s d w =
 -- ---- what is read
 
 module _ (p : Parameter) (t : Float) (A : InUnit binary64 t) where
-  pub read-in-range : In valueRange p → ReadRange (interpolatedValue p t .0)
+  pub read-in-range : ParameterIn valueRange p → ReadRange (interpolatedValue p t .0)
   unfolding interpolatedValue
   read-in-range h = interpolated-read (p .«previous_raw_value») (p .«raw_value») t A (h .previous) (h .value)
 
-  pub read-silent : In silentRange p → SilentRange (interpolatedValue p t .0)
+  pub read-silent : ParameterIn silentRange p → SilentRange (interpolatedValue p t .0)
   unfolding interpolatedValue
   read-silent h = interpolated-silent (p .«previous_raw_value») (p .«raw_value») t A (h .previous) (h .value)
 
   -- a value that stands still has one amplitude for the whole chunk
-  pub still-amplitude : In valueRange p → p .«previous_raw_value» ≡ p .«raw_value» → amplitude (interpolatedValue p t .0) ≡ amplitude (p .«raw_value» .0)
+  pub still-amplitude : ParameterIn valueRange p → p .«previous_raw_value» ≡ p .«raw_value» → amplitude (interpolatedValue p t .0) ≡ amplitude (p .«raw_value» .0)
   unfolding interpolatedValue
   still-amplitude h e =
       ap (λ (a : Decibels). amplitude (interpolated a (p .«raw_value») t .0)) e

@@ -2,10 +2,10 @@
 -- once is paused from its first update on. Assumes nothing.
 use mathlib.Core.Path.{_≡_, refl, sym, ap, _∙_, subst}
 use mathlib.Core.Bool.{Bool, true, false, cond}
-use Prim.Native.Nat.{ℕ, _<_, _^_}
+use Prim.Native.Nat.{ℕ}
 use lib.Dec.{T}
 use lib.Ieee.{Float, neg, ofInt}
-use Rattle.laws.specs.Choice.{cond-true, cond-false}
+use Rattle.laws.specs.Choice.{cond-false}
 use Rattle.laws.specs.FloatLiteral.{posZero}
 use Rattle.laws.specs.Amount.{unsigned}
 use Rattle.laws.specs.DecibelRange.{target→value, silent→target, minus-sixty, minus-sixty-silent, posZero-target}
@@ -22,7 +22,7 @@ use Rattle.playback.specs.declared.playback_state_manager.PlaybackState.
 use Rattle.playback.specs.declared.playback_state_manager.PlaybackStateManager.{PlaybackStateManager}
 use Rattle.playback.specs.declared.playback_state_manager.PlaybackUpdate.{PlaybackUpdate}
 use Rattle.parameter.specs.Parameter.{parameterSet, parameterUpdate}
-use Rattle.parameter.specs.ParameterLaws.{In, valueRange, Short, new-in, set-in, update-in, set-at-once}
+use Rattle.parameter.specs.ParameterLaws.{ParameterIn, valueRange, Short, new-in, set-in, update-in, set-at-once}
 use Rattle.playback.specs.PlaybackStateManager.{isStopped, silent, identity, playbackNew, playbackPause, resumed, resumedAt, playbackResume, unchanged, changedTo, afterFade, waitedUntil, waitingUpdate, stateUpdate, playbackUpdate}
 
 -- ---- it runs on
@@ -39,7 +39,7 @@ StateRuns count Stopped = ⊥
 
 pub record Runs (count : ℕ) (m : PlaybackStateManager) : Type 0 where
   pub state : StateRuns count (m .state)
-  pub fade : In valueRange (m .«volume_fade»)
+  pub fade : ParameterIn valueRange (m .«volume_fade»)
 
 pub runs-not-stopped : (count : ℕ) (state : PlaybackState) → StateRuns count state → isStopped state ≡ false
 unfolding isStopped
@@ -63,15 +63,15 @@ module _ (count : ℕ) where
   pub pause-runs : (m : PlaybackStateManager) (tween : Tween) → Short tween → Runs count m → Runs count (playbackPause m tween)
   unfolding playbackPause ofInt neg
   pause-runs m tween s h =
-      let fade : In valueRange (parameterSet (m .«volume_fade») silent tween) = set-in valueRange (m .«volume_fade») silent tween (h .fade) (silent→target minus-sixty minus-sixty-silent) s in
+      let fade : ParameterIn valueRange (parameterSet (m .«volume_fade») silent tween) = set-in valueRange (m .«volume_fade») silent tween (h .fade) (silent→target minus-sixty minus-sixty-silent) s in
       let runs : Runs count (record { state = Pausing; «volume_fade» = parameterSet (m .«volume_fade») silent tween }) = record { state = tt; fade = fade } in
       subst (Runs count) (sym (cond-false (isStopped (m .state)) m (record { state = Pausing; «volume_fade» = parameterSet (m .«volume_fade») silent tween }) (runs-not-stopped count (m .state) (h .state)))) runs
 
-  resumed-runs : (fade : Parameter) (tween : Tween) → Short tween → In valueRange fade → Runs count (resumed fade tween)
+  resumed-runs : (fade : Parameter) (tween : Tween) → Short tween → ParameterIn valueRange fade → Runs count (resumed fade tween)
   unfolding resumed ofInt
   resumed-runs fade tween s h = record { state = tt; fade = set-in valueRange fade identity tween h posZero-target s }
 
-  resumed-at-runs : (start : StartTime) (fade : Parameter) (tween : Tween) → ClockThere count start → Short tween → In valueRange fade → Runs count (resumedAt start fade tween)
+  resumed-at-runs : (start : StartTime) (fade : Parameter) (tween : Tween) → ClockThere count start → Short tween → ParameterIn valueRange fade → Runs count (resumedAt start fade tween)
   unfolding resumedAt
   resumed-at-runs start fade tween c s h = go (isImmediate start)
     where
@@ -88,14 +88,14 @@ module _ (count : ℕ) where
       subst (Runs count) (sym (cond-false (isStopped (m .state)) m (resumedAt start (m .«volume_fade») tween) (runs-not-stopped count (m .state) (h .state))))
       (resumed-at-runs start (m .«volume_fade») tween c s (h .fade))
 
-  waiting-runs : (u : StartTimeUpdate) (tween : Tween) (fade : Parameter) → Goes count u → Short tween → In valueRange fade → Runs count (waitingUpdate u tween fade .manager)
+  waiting-runs : (u : StartTimeUpdate) (tween : Tween) (fade : Parameter) → Goes count u → Short tween → ParameterIn valueRange fade → Runs count (waitingUpdate u tween fade .manager)
   unfolding waitingUpdate waitedUntil
   waiting-runs u tween fade g s h =
       subst (λ (x : PlaybackUpdate). Runs count (x .manager)) (sym (cond-false (u .«will_never_start») (changedTo Stopped fade) (waitedUntil (u .«start_time») tween fade) (g .starts)))
       (either-runs count (isImmediate (u .«start_time»)) (record { manager = resumed fade tween; «changed_playback_state» = true }) (unchanged (WaitingToResume (u .«start_time») tween) fade)
       (resumed-runs fade tween s h) (record { state = (g .there, s); fade = h }))
 
-state-runs : (clocks : Clocks) (state : PlaybackState) (fade : Parameter) (finished : Bool) (dt : Float) → StateRuns (clocks .count) state → In valueRange fade
+state-runs : (clocks : Clocks) (state : PlaybackState) (fade : Parameter) (finished : Bool) (dt : Float) → StateRuns (clocks .count) state → ParameterIn valueRange fade
     → Runs (clocks .count) (stateUpdate state fade finished dt clocks .manager)
 unfolding stateUpdate afterFade
 state-runs clocks Playing fade finished dt h k = record { state = tt; fade = k }

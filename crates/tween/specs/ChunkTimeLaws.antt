@@ -1,19 +1,14 @@
 -- A chunk's seconds are what updates here ask for: not signed, and no more than an hour. Assumes nothing.
-use mathlib.Core.Path.{_≡_}
 use mathlib.Core.Bool.{true, false}
 use Prim.Native.Nat.{ℕ, _*_, _^_, _≤_, _<_}
-use native.Mathlib.Nat.{le-trans, lt-of-le-of-lt, mul-le-mul-right}
-use native.Mathlib.Omega.{arith}
+use native.Mathlib.Nat.{le-trans, lt-of-le-of-lt}
 use lib.Dec.{T, lit<, lit≤}
-use lib.Ieee.{Float, nan, inf, fin, Format, binary64, up, down, round, mul, div, le, ofInt, unlike}
-use lib.Ieee.Order.{round-mono}
+use lib.Ieee.{Float, nan, inf, fin, Format, binary64, up, down, mul, div, le, ofInt}
 use lib.Ieee.Scale.{finite}
-use lib.Ieee.Positive.{positive}
-use Rattle.laws.specs.FloatOrder.{Number, le-through}
+use Rattle.laws.specs.FloatOrder.{le-through}
 use Rattle.laws.specs.FloatRound.{integer, at-integer, number}
-use Rattle.laws.specs.Amount.{unsigned, round-unsigned, div-amount, amount-number, place-amount}
+use Rattle.laws.specs.Amount.{unsigned, round-unsigned, amount-number, place-amount}
 use Rattle.number.specs.Duration.{InAnHour}
-use Rattle.clock.specs.Clock.{IsStep}
 use Rattle.clock.specs.ChunkTime.{chunkTime, chunk-step}
 
 mul-unsigned : (f : Format) (x y : Float) → T (unsigned x) → T (finite x) → T (unsigned y) → T (finite y) → T (unsigned (mul f x y))

@@ -1,8 +1,8 @@
 -- tween.rs.
-use mathlib.Core.Bool.{Bool, cond}
+use mathlib.Core.Bool.{cond}
 use Prim.Native.Nat.{ℕ, zero, suc, _/_, _%_}
 use lib.Dec.{eqb}
-use lib.Ieee.{Float, binary64, ofBits, add, sub, mul, div, lt}
+use lib.Ieee.{Float, binary64, add, sub, mul, div, lt}
 use Rattle.tween.specs.declared.tween.Easing.{Easing}
 use Rattle.tween.specs.declared.tween.Easing.the-variants.{Linear, InPowi, OutPowi, InOutPowi}
 use Rattle.tween.specs.declared.tween.Tween.{Tween}

@@ -5,7 +5,6 @@ use mathlib.Core.Bool.{Bool, true, false, cond, _&&_, _||_, true≢false}
 use Prim.Native.Nat.{ℕ, zero, suc, _+_, _-_, _*_, _/_, _%_, _^_, _≤_, _<_}
 use native.Mathlib.Nat.{eq-zero-or-pos, mul-pos, suc-mul, le-add-left, le-add-right, le-antisymm}
 use native.Mathlib.Omega.{arith}
-use lib.IntN.{pos}
 use lib.Dec.{T, ltb, eqb, lit<}
 use borrow.Author.Tests.{ltb-false, eqb-false}
 use lib.Pow.{pow-pos}
@@ -16,8 +15,7 @@ use Rattle.laws.specs.Choice.{true-T, false-T}
 use Rattle.laws.specs.FloatLiteral.{posZero, half, one, two, at-posZero}
 use Rattle.laws.specs.FloatOrder.{Number, plus, minus, units→lt, lt→units}
 use Rattle.laws.specs.FloatRound.{Between, integer, at-integer, number, units-least, add-between}
-use Rattle.laws.specs.Amount.{InUnit, unsigned, round-unsigned, add-unsigned, power-amount, mul-amount, div-amount, positive-of-lt, one-minus-amount, double-amount, mirror-amount, one-in-unit, half-amount, mirrored-upper-amount, amount-number, amount-minus, amount-plus, place-amount, place-above-zero}
-use Rattle.laws.specs.DecibelRange.{integer-pos}
+use Rattle.laws.specs.Amount.{InUnit, unsigned, round-unsigned, add-unsigned, power-amount, mul-amount, div-amount, positive-of-lt, one-minus-amount, double-amount, mirror-amount, one-in-unit, half-amount, mirrored-upper-amount, amount-number, amount-minus, amount-plus, place-above-zero}
 use Rattle.number.specs.Duration.{secsFromMillis}
 use Rattle.tween.specs.declared.tween.Easing.{Easing}
 use Rattle.tween.specs.declared.tween.Easing.the-variants.{Linear, InPowi, OutPowi, InOutPowi}
@@ -147,7 +145,7 @@ duration-zero = refl
 -- ---- a tween's value
 
 -- a time within a motion of so many milliseconds
-pub record Within (time : Float) (millis : ℕ) : Type 0 where
+pub record TimeWithin (time : Float) (millis : ℕ) : Type 0 where
   pub sign : T (unsigned time)
   pub most : T (le time (secsFromMillis millis))
 
@@ -191,17 +189,17 @@ unsigned-total (fin false m i) (inf false) h k e = absurd (true≢false e)
 unsigned-total (fin false m i) (fin true n j) h k e = absurd k
 unsigned-total (fin false m i) (fin false n j) h k e = holds (n * up j * down i) (m * up i * down j) (fails (m * up i * down j) (n * up j * down i) e)
 
-pub within-start : (millis : ℕ) → Within posZero millis
+pub within-start : (millis : ℕ) → TimeWithin posZero millis
 within-start millis = record { sign = tt; most = unsigned-above (secsFromMillis millis) (duration-unsigned millis) }
 
-pub tween-amount : (tween : Tween) (time : Float) → 0 < tween .duration → tween .duration < 2 ^ 53 → Within time (tween .duration) → InUnit binary64 (tweenValue tween time)
+pub tween-amount : (tween : Tween) (time : Float) → 0 < tween .duration → tween .duration < 2 ^ 53 → TimeWithin time (tween .duration) → InUnit binary64 (tweenValue tween time)
 unfolding tweenValue
 tween-amount tween time p h w =
     easing-amount (tween .easing) (div binary64 time (secsFromMillis (tween .duration)))
     (div-amount binary64 time (secsFromMillis (tween .duration)) (w .sign) (duration-positive (tween .duration) p h) (w .most))
 
 -- a motion that has not ended after a step on
-pub within-step : (time dt : Float) (millis : ℕ) → T (unsigned time) → T (unsigned dt) → le (secsFromMillis millis) (add binary64 time dt) ≡ false → Within (add binary64 time dt) millis
+pub within-step : (time dt : Float) (millis : ℕ) → T (unsigned time) → T (unsigned dt) → le (secsFromMillis millis) (add binary64 time dt) ≡ false → TimeWithin (add binary64 time dt) millis
 within-step time dt millis h k e =
     let sign = add-unsigned binary64 time dt h k in
     record { sign = sign; most = unsigned-total (secsFromMillis millis) (add binary64 time dt) (duration-unsigned millis) sign e }

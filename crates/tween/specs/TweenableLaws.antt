@@ -1,12 +1,11 @@
 -- The ranges of decibels that interpolation keeps to, for amounts that are rounded to f32. Assumes nothing.
-use mathlib.Core.Path.{_≡_, refl, ap, _∙_, sym}
-use mathlib.Core.Logic.{_⊎_, inl, inr}
-use Prim.Native.Nat.{_*_}
-use lib.Ieee.{Float, binary32, binary64, up, down, round}
+use mathlib.Core.Path.{_≡_, refl}
+use mathlib.Core.Logic.{_⊎_}
+use lib.Ieee.{Float, binary32, binary64}
 use Rattle.laws.specs.FloatOrder.{Number}
 use Rattle.laws.specs.FloatLiteral.{posZero, negZero}
 use Rattle.laws.specs.Amount.{InUnit, narrowed-amount}
-use Rattle.laws.specs.Interpolate.{interpolate, still}
+use Rattle.laws.specs.Interpolate.{still}
 use Rattle.laws.specs.DecibelRange.{TargetRange, ValueRange, ReadRange, SilentRange, value-moves, value-read, silent-stays}
 use Rattle.number.specs.Narrow.{narrowed}
 use Rattle.decibels.specs.declared.decibels.Decibels.{Decibels}

@@ -14,6 +14,8 @@ pub use list::report;
 pub use text::Column;
 pub use text::Column32;
 pub use text::hex_at;
+pub use text::hex;
+pub use text::hex32;
 pub use text::hex32_at;
 pub use text::is_row;
 pub use text::line_length;

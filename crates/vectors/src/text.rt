@@ -63,7 +63,7 @@ fn digit(byte: u8) -> u64
 }
 
 // The number that all of the column's bytes write.
-fn hex(column: &[u8]) -> Column
+pub fn hex(column: &[u8]) -> Column
     ensures { λ r. ⌜ r ≡ hexOf (now (column .entry)) ⌝ }
 {
     let mut number: u64 = 0;
@@ -80,6 +80,19 @@ fn hex(column: &[u8]) -> Column
         i += 1;
     }
     Column::Number(number)
+}
+
+pub fn hex32(column: &[u8]) -> Column32
+    ensures { λ r. ⌜ r ≡ below32 (hexOf (now (column .entry))) ⌝ }
+{
+    let Column::Number(number) = hex(column) else {
+        return Column32::Malformed;
+    };
+    if number < 1 << 32 {
+        Column32::Number(number as u32)
+    } else {
+        Column32::Malformed
+    }
 }
 
 // The column of so many digits that starts at a place of a row.

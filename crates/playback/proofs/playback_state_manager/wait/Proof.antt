@@ -1,5 +1,5 @@
 -- `playback_state_manager::wait` meets its contract: the tests are the definition's. Assumes nothing.
-use mathlib.Core.Path.{_≡_, sym, ap, _∙_}
+use mathlib.Core.Path.{sym, ap, _∙_}
 use mathlib.Core.Bool.{true}
 use borrow.Author.Needs.{needs}
 use Rattle.laws.specs.Choice.{cond-true, cond-false}

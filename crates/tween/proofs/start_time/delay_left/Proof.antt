@@ -1,5 +1,5 @@
 -- `start_time::delay_left` meets its contract: ℕ's subtraction stops at 0. Assumes nothing.
-use mathlib.Core.Path.{_≡_, sym, ap, _∙_}
+use mathlib.Core.Path.{sym, ap, _∙_}
 use Prim.Native.Nat.{ℕ, _-_}
 use native.Mathlib.Nat.{sub-eq-zero-of-le}
 use borrow.Author.Needs.{needs}

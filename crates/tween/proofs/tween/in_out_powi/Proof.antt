@@ -1,5 +1,5 @@
 -- `tween::in_out_powi` meets its contract: its test picks the definition's case. Assumes nothing.
-use mathlib.Core.Path.{_≡_, sym, ap, _∙_}
+use mathlib.Core.Path.{sym, ap, _∙_}
 use lib.Ieee.{Float, binary64, add, sub, mul, ofBits}
 use borrow.Author.Needs.{needs}
 use Rattle.laws.specs.Choice.{cond-true, cond-false}

@@ -1,7 +1,7 @@
 -- `tween::powi` meets its contract. The loop's invariant: with as many bits to go as the rest of the power has or more, the definition gives from the
 -- values at hand what it gives from the start. The measure is the rest. Assumes nothing.
 use mathlib.Core.Path.{_≡_, refl, sym, ap, _∙_}
-use mathlib.Core.Bool.{true, false, cond}
+use mathlib.Core.Bool.{cond}
 use mathlib.Core.Logic.{⊎-elim}
 use Prim.Native.Nat.{ℕ, zero, suc, _/_, _%_, _^_, _<_}
 use native.Mathlib.Nat.{two-pow-succ}
@@ -9,7 +9,6 @@ use native.Mathlib.Omega.{arith}
 use lib.Dec.{eqb}
 use lib.Ieee.{Float, binary64, mul, ofBits}
 use borrow.Author.Tests.{eq-eqb, ne-eqb}
-use borrow.Author.Needs.{needs}
 use Rattle.laws.specs.Choice.{cond-true, cond-false}
 use Rattle.tween.specs.Tween.{powiFrom, powi}
 use Rattle.tween.proofs.tween.powi.Statement.{statement}

@@ -1,5 +1,5 @@
 -- `Parameter::move_tween` meets its contract: the test is the definition's. Assumes nothing.
-use mathlib.Core.Path.{_≡_, sym, ap, _∙_}
+use mathlib.Core.Path.{sym, ap, _∙_}
 use lib.Ieee.{Float, le}
 use Rattle.laws.specs.Choice.{cond-true, cond-false}
 use Rattle.parameter.specs.Parameter.{withState, tweenMove}

@@ -1,5 +1,5 @@
 -- `PlaybackStateManager::update` meets its contract. Assumes nothing.
-use mathlib.Core.Path.{sym, ap, _∙_}
+use mathlib.Core.Path.{ap, _∙_}
 use Rattle.parameter.specs.declared.parameter.ParameterUpdate.{ParameterUpdate}
 use Rattle.playback.specs.PlaybackStateManager.{stateUpdate, playbackUpdate}
 use borrow.Author.Needs.{needs}

@@ -1,6 +1,6 @@
 -- `Easing::apply` meets its contract: each arm is the definition's. Assumes nothing.
-use mathlib.Core.Path.{_≡_, sym, ap, _∙_}
-use lib.Ieee.{Float, binary64, sub, ofBits}
+use mathlib.Core.Path.{sym, ap, _∙_}
+use lib.Ieee.{binary64, sub, ofBits}
 use borrow.Author.Needs.{needs}
 use Rattle.laws.specs.FloatLiteral.{one}
 use Rattle.tween.specs.declared.tween.Easing.{Easing}

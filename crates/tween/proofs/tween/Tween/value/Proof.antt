@@ -1,5 +1,5 @@
 -- `Tween::value` meets its contract. Assumes nothing.
-use mathlib.Core.Path.{_≡_, ap, _∙_}
+use mathlib.Core.Path.{ap, _∙_}
 use lib.Ieee.{Float, binary64, div}
 use borrow.Author.Needs.{needs}
 use Rattle.tween.specs.Tween.{easingApply, tweenValue}

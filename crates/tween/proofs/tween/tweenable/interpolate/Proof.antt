@@ -1,5 +1,5 @@
 -- `tweenable::interpolate` meets its contract. Assumes nothing.
-use mathlib.Core.Path.{_≡_, ap}
+use mathlib.Core.Path.{ap}
 use lib.Ieee.{Float, binary32}
 use borrow.Author.Needs.{needs}
 use Rattle.laws.specs.Interpolate.{interpolate}
