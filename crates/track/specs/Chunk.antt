@@ -1,0 +1,81 @@
+-- What mixing a chunk reads: the lines, and every level before the chunk and at its end.
+use mathlib.Core.Bool.{false}
+use mathlib.Core.List.{List}
+use Prim.Native.Nat.{ℕ, _+_, _*_, _≤_, _<_}
+use lib.IntN.{pos}
+use lib.ListN.{getD, length}
+use lib.Ieee.{Float, nan, binary32, binary64, div, mul, ofInt}
+use Rattle.decibels.specs.declared.decibels.Decibels.{Decibels}
+use Rattle.decibels.specs.declared.decibels.Amplitude.{Amplitude}
+use Rattle.decibels.specs.Decibels.{amplitude}
+use Rattle.laws.specs.Amount.{InUnit}
+use Rattle.laws.specs.DecibelRange.{ValueRange}
+use Rattle.tween.specs.Tweenable.{interpolated}
+use Rattle.track.specs.declared.chunk.Level.{Level}
+use Rattle.track.specs.declared.chunk.ChunkTrack.{ChunkTrack}
+use Rattle.track.specs.declared.chunk.ChunkRoute.{ChunkRoute}
+use Rattle.track.specs.declared.chunk.ChunkSound.{ChunkSound}
+use Rattle.track.specs.declared.chunk.Chunk.{Chunk}
+
+-- what stands past the end of an array
+abbrev pub noLevel : Level
+noLevel = record { before = record { 0 = nan }; now = record { 0 = nan } }
+
+abbrev pub noTrack : ChunkTrack
+noTrack = record { parent = 0; advancing = false; volume = noLevel; fade = noLevel }
+
+abbrev pub noRoute : ChunkRoute
+noRoute = record { track = 0; send = 0; amplitude = record { 0 = nan } }
+
+abbrev pub noSound : ChunkSound
+noSound = record { track = 0; start = 0; left = 0 }
+
+-- line j of a table, counted from 0
+abbrev pub trackLine : Chunk → ℕ → ChunkTrack
+trackLine c j = getD (c .tracks) j noTrack
+
+abbrev pub routeLine : Chunk → ℕ → ChunkRoute
+routeLine c r = getD (c .routes) r noRoute
+
+abbrev pub soundLine : Chunk → ℕ → ChunkSound
+soundLine c k = getD (c .sounds) k noSound
+
+abbrev pub sendLine : Chunk → ℕ → Level
+sendLine c s = getD (c .sends) s noLevel
+
+-- how far into a chunk of n frames frame i is read: (i + 1) / n
+unfoldable pub amountAt : ℕ → ℕ → Float
+amountAt i n = div binary64 (ofInt binary64 (pos (i + 1))) (ofInt binary64 (pos n))
+
+unfoldable pub levelAmplitude : Level → Float → Amplitude
+levelAmplitude l amount = record { 0 = amplitude (interpolated (l .before) (l .now) amount .0) }
+
+-- volume times fade
+unfoldable pub trackAmplitude : ChunkTrack → Float → Amplitude
+trackAmplitude t amount = record { 0 = mul binary32 (levelAmplitude (t .volume) amount .0) (levelAmplitude (t .fade) amount .0) }
+
+-- ---- what mixing asks of a chunk
+
+-- an amount in 0..1
+abbrev pub IsAmount : Float → Type 0
+IsAmount x = InUnit binary64 x
+
+-- both values of a level lie in -97..19, so that what is read between them lies in -98..20
+pub record LevelInRange (l : Level) : Type 0 where
+  pub before : ValueRange (l .before .0)
+  pub now : ValueRange (l .now .0)
+
+pub record ChunkOk (c : Chunk) (samples : List Float) : Type 0 where
+  pub short : c .frames ≤ 256
+  pub tracks : c .«track_count» ≤ 32
+  pub sends : c .«send_count» ≤ 8
+  pub routes : c .«route_count» ≤ 64
+  pub sounds : c .«sound_count» ≤ 64
+  pub volumes : (j : ℕ) → j < c .«track_count» → LevelInRange (trackLine c j .volume)
+  pub fades : (j : ℕ) → j < c .«track_count» → LevelInRange (trackLine c j .fade)
+  pub sendLevels : (s : ℕ) → s < c .«send_count» → LevelInRange (sendLine c s)
+  pub mainLevel : LevelInRange (c .main)
+  -- a route's send track is a line from 1 to 8
+  pub routed : (r : ℕ) → r < c .«route_count» → (1 ≤ routeLine c r .send) × (routeLine c r .send ≤ 8)
+  -- what a sound has left lies within the samples
+  pub held : (k : ℕ) → k < c .«sound_count» → 2 * (soundLine c k .start + soundLine c k .left) ≤ length samples

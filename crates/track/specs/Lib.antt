@@ -1,0 +1,13 @@
+pub mod Picks
+pub mod Frame
+pub mod FrameLaws
+pub mod TurnLaws
+pub mod Chunk
+pub mod ChunkLaws
+pub mod Sound
+pub mod Sub
+pub mod Send
+pub mod SendLaws
+pub mod SubLaws
+pub mod Mix
+pub mod MixLaws

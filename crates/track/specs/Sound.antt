@@ -1,0 +1,25 @@
+-- Sounds: frames of the sample buffer in turn, then zeros.
+use mathlib.Core.Bool.{cond}
+use mathlib.Core.List.{List}
+use Prim.Native.Nat.{ℕ, _+_}
+use lib.Dec.{eqb, ltb}
+use lib.Ieee.{Float}
+use Rattle.laws.specs.Loop.{downto}
+use Rattle.track.specs.declared.frame.Frame.{Frame}
+use Rattle.track.specs.declared.chunk.ChunkSound.{ChunkSound}
+use Rattle.track.specs.declared.chunk.Chunk.{Chunk}
+use Rattle.track.specs.Frame.{zeroFrame, added, frameAt}
+use Rattle.track.specs.Chunk.{soundLine}
+
+-- what a sound plays at frame i of the chunk
+unfoldable pub soundFrame : List Float → ChunkSound → ℕ → Frame
+soundFrame samples s i = cond (ltb i (s .left)) (frameAt samples (s .start + i)) zeroFrame
+
+-- one sound, as a step on frames
+unfoldable pub addedSound : List Float → ChunkSound → ℕ → Frame → Frame
+addedSound samples s i a = added a (soundFrame samples s i)
+
+-- the sounds of track `line` (counted from 1; 0 is the main track) added onto a sum, latest line first
+unfoldable pub withSounds : Chunk → List Float → ℕ → ℕ → Frame → Frame
+withSounds c samples line i sum =
+    downto (λ k a. cond (eqb (soundLine c k .track) line) (addedSound samples (soundLine c k) i a) a) (c .«sound_count») sum
