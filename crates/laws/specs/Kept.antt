@@ -3,7 +3,7 @@
 -- The two lemmas at the end relate a loop over n lines to the loop over the lines that are left: if a turn at a kept line keeps a relation
 -- between the two states, and a turn at a removed line keeps it while the other side stands still, the two loops' results are related.
 -- Assumes nothing.
-use mathlib.Core.Path.{_≡_, refl, sym, ap, _∙_, subst}
+use mathlib.Core.Path.{_≡_, refl, sym, ap, ap₂, _∙_, subst}
 use mathlib.Core.Logic.{_⊎_, inl, inr}
 use Prim.Native.Nat.{ℕ, zero, suc, _≤_, _<_, suc-le-suc}
 use native.Mathlib.Nat.{le-refl, le-trans, le-suc, le-of-suc-le-suc, not-suc-le-zero, eq-or-lt-of-le}
@@ -92,6 +92,12 @@ rank-inj keep a b s t e = apart a b (λ l. below l e (rank-lt keep a b s l)) (λ
 
     below : {x y u v : ℕ} → x < y → u ≡ v → u < v → ⊥
     below l p h = omega arith
+
+-- tests that agree below n count the same lines
+pub rank-cong : (keep keep' : ℕ → Bool) (n : ℕ) → ((i : ℕ) → i < n → keep i ≡ keep' i) → rank keep n ≡ rank keep' n
+unfolding rank
+rank-cong keep keep' zero h = refl
+rank-cong keep keep' (suc n) h = ap₂ (λ (b : Bool) (r : ℕ). cond b (suc r) r) (h n (le-refl (suc n))) (rank-cong keep keep' n (λ i l. h i (le-trans l (le-suc n))))
 
 -- ---- the table of the kept lines
 

@@ -2,6 +2,7 @@
 pub mod Loop
 pub mod Kept
 pub mod KeptSum
+pub mod Pieces
 pub mod Table
 pub mod Choice
 pub mod Rows

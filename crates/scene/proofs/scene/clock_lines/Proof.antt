@@ -1,0 +1,68 @@
+-- `clock_lines` meets its contract: the lines read so far stand in their places. Assumes nothing.
+use mathlib.Core.Path.{_≡_}
+use Prim.Native.Nat.{_≤_, _-_}
+use lib.ListN.{take}
+use borrow.Author.Needs.{needs}
+use native.Mathlib.Omega.{arith}
+use Rattle.scene.specs.Scene.{filled, noClock, clockOf}
+use Rattle.scene_questions.specs.Places.{rowsIn}
+use Rattle.scene.specs.Laws.Typed.{fill-start, fill-next, fill-done}
+use Rattle.scene.proofs.scene.clock_lines.Statement.{statement}
+use Rattle.scene.proofs.scene.clock_lines.Tie as tie
+
+abbrev Inv-loop : tie.InvT-loop
+Inv-loop values start lines out₀ i₀ out i = (i ≤ lines) × (out ≡ filled 8 noClock clockOf (take i (rowsIn values start 3 lines)))
+
+abbrev μ-loop : tie.MeasureT-loop
+μ-loop values start lines out₀ i₀ out i = lines - i
+
+no-clock-requires : tie.Need-no-clock-requires Inv-loop μ-loop
+no-clock-requires c κs = search needs
+
+loop-holds : tie.Need-loop-holds Inv-loop μ-loop
+loop-holds c = (omega arith, fill-start 8 noClock clockOf (c .no-clock .result) (c .no-clock .ensures))
+
+mul-clock-line-of : tie.Need-mul-clock-line-of Inv-loop μ-loop
+mul-clock-line-of c = omega arith
+
+add-clock-line-of : tie.Need-add-clock-line-of Inv-loop μ-loop
+add-clock-line-of c = omega arith
+
+clock-line-of-requires : tie.Need-clock-line-of-requires Inv-loop μ-loop
+clock-line-of-requires c κs = search needs
+
+mul-out : tie.Need-mul-out Inv-loop μ-loop
+mul-out c = omega arith
+
+array-set-from-out : tie.Need-array-set-from-out Inv-loop μ-loop
+array-set-from-out c = omega arith
+
+add-i : tie.Need-add-i Inv-loop μ-loop
+add-i c = omega arith
+
+loop-less : tie.Need-loop-less Inv-loop μ-loop
+loop-less c = omega arith
+
+loop-again : tie.Need-loop-again Inv-loop μ-loop
+loop-again c = (omega arith, search (fill-next, needs))
+
+returns : tie.Need-returns Inv-loop μ-loop
+returns c = search (fill-done, needs)
+
+pub clock-lines-spec : {M : Type 1} → statement M
+clock-lines-spec =
+    tie.close
+    (tie.spec
+    Inv-loop
+    μ-loop
+    no-clock-requires
+    loop-holds
+    mul-clock-line-of
+    add-clock-line-of
+    clock-line-of-requires
+    mul-out
+    array-set-from-out
+    add-i
+    loop-less
+    loop-again
+    returns)
