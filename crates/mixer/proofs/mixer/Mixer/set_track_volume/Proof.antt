@@ -1,0 +1,34 @@
+-- `Mixer::set_track_volume` meets its contract. Assumes nothing.
+use native.Mathlib.Nat.{le-refl}
+use lib.Dec.{lit<}
+use Rattle.mixer.specs.Sub.{trackSet}
+use Rattle.mixer.proofs.Turns.{scaled, line-within}
+use Rattle.mixer.proofs.Ordered.{track-stored}
+use Rattle.mixer.proofs.mixer.Mixer.set_track_volume.Statement.{statement}
+use Rattle.mixer.proofs.mixer.Mixer.set_track_volume.Tie as tie
+
+sub-i : tie.Need-sub-i
+sub-i c = c .pre .0
+
+mul-track : tie.Need-mul-track
+mul-track c = record { fits = scaled _ (line-within (c .before .pre .0) (c .before .pre .1)) (le-refl 32) (lit< tt) }
+
+array-copy-out-track : tie.Need-array-copy-out-track
+array-copy-out-track c = line-within (c .before .pre .0) (c .before .pre .1)
+
+set-volume-requires : tie.Need-set-volume-requires
+set-volume-requires c κs = tt
+
+mul-tracks : tie.Need-mul-tracks
+mul-tracks c = record { fits = scaled _ (line-within (c .before .before .before .pre .0) (c .before .before .before .pre .1)) (le-refl 32) (lit< tt) }
+
+array-set-from-tracks : tie.Need-array-set-from-tracks
+array-set-from-tracks c = line-within (c .before .before .before .pre .0) (c .before .before .before .pre .1)
+
+returns : tie.Need-returns
+returns c =
+    let start = c .before .before .before in
+    track-stored (start .args .self) (start .args .line) (λ t. trackSet t (start .args .target) (start .args .tween)) (c .set-volume .ensures)
+
+pub set-track-volume-spec : {M : Type 1} → statement M
+set-track-volume-spec = tie.close (tie.spec sub-i mul-track array-copy-out-track set-volume-requires mul-tracks array-set-from-tracks returns)

@@ -1,0 +1,78 @@
+-- `sounds::played_on` meets its contract. The invariant: the sounds below k have moved on. Assumes nothing.
+use mathlib.Core.Path.{_≡_, sym}
+use mathlib.Core.List.{List}
+use Prim.Native.Nat.{ℕ, _-_, _≤_, zero-le}
+use native.Mathlib.Nat.{lt-of-lt-of-le}
+use native.Mathlib.Numerals.{add-one-le}
+use lib.Dec.{lit<}
+use lib.ListN.{getD}
+use Rattle.laws.specs.Loop.{changed, changed-zero}
+use Rattle.scene.specs.declared.scene.SoundLine.{SoundLine}
+use Rattle.accepted.specs.Lines.{absentSound}
+use Rattle.mixer.specs.declared.sub.Track.{Track}
+use Rattle.mixer.specs.Sounds.{playedAfter, playedOn}
+use Rattle.mixer.proofs.Turns.{scaled, next-fits, falls, turned-old, ended}
+use Rattle.mixer.proofs.sounds.played_on.Statement.{statement}
+use Rattle.mixer.proofs.sounds.played_on.Tie as tie
+
+abbrev after : List SoundLine → List Track → ℕ → ℕ → ℕ → ℕ
+after lines tracks frames k done = playedAfter tracks (getD lines k absentSound) frames done
+
+abbrev Inv-loop : tie.InvT-loop
+Inv-loop count tracks frames played lines next₀ k₀ next k = (k ≤ count) × (count ≤ 64) × (next ≡ changed (after lines tracks frames) k played)
+
+abbrev μ-loop : tie.MeasureT-loop
+μ-loop count tracks frames played lines next₀ k₀ next k = count - k
+
+loop-holds : tie.Need-loop-holds Inv-loop μ-loop
+loop-holds c = (zero-le, c .pre .0, sym (changed-zero _ _))
+
+mul-line : tie.Need-mul-line Inv-loop μ-loop
+mul-line c = record { fits = scaled _ (c .loop-test .taken) (c .before .loop .inv .1) (lit< tt) }
+
+array-copy-out-line : tie.Need-array-copy-out-line Inv-loop μ-loop
+array-copy-out-line c = lt-of-lt-of-le (c .loop-test .taken) (c .before .loop .inv .1)
+
+mul-done : tie.Need-mul-done Inv-loop μ-loop
+mul-done c = record { fits = scaled _ (c .before .loop-test .taken) (c .before .before .loop .inv .1) (lit< tt) }
+
+array-read-done : tie.Need-array-read-done Inv-loop μ-loop
+array-read-done c = lt-of-lt-of-le (c .before .loop-test .taken) (c .before .before .loop .inv .1)
+
+played-after-requires : tie.Need-played-after-requires Inv-loop μ-loop
+played-after-requires c κs =
+    let l = c .before .before in
+    let t = c .before .loop-test .taken in
+    (l .before .pre .1 .1 (l .loop .k) t, l .before .pre .1 .0 (l .loop .k) t)
+
+mul-next : tie.Need-mul-next Inv-loop μ-loop
+mul-next c = record { fits = scaled _ (c .before .before .loop-test .taken) (c .before .before .before .loop .inv .1) (lit< tt) }
+
+array-write-next : tie.Need-array-write-next Inv-loop μ-loop
+array-write-next c = lt-of-lt-of-le (c .before .before .loop-test .taken) (c .before .before .before .loop .inv .1)
+
+add-k : tie.Need-add-k Inv-loop μ-loop
+add-k c = record { fits = next-fits (c .before .before .loop-test .taken) (c .before .before .before .loop .inv .1) (lit< tt) }
+
+loop-less : tie.Need-loop-less Inv-loop μ-loop
+loop-less c = falls _ _ (c .before .before .loop-test .taken)
+
+loop-again : tie.Need-loop-again Inv-loop μ-loop
+loop-again c =
+    let l = c .before .before .before in
+    let start = l .before in (
+      add-one-le (c .before .before .loop-test .taken),
+      l .loop .inv .1,
+      turned-old (after (start .args .t2) (start .args .tracks) (start .args .frames)) (start .args .t1) 0 (l .loop .k) (c .played-after .ensures) (l .loop .inv .2),
+    )
+
+returns : tie.Need-returns Inv-loop μ-loop
+unfolding playedOn
+returns c =
+    let start = c .before .before in
+    ended (after (start .args .t2) (start .args .tracks) (start .args .frames)) (start .args .t1) (c .before .loop .inv .0) (c .loop-test .left) (c .before .loop .inv .2)
+
+pub played-on-spec : {M : Type 1} → statement M
+played-on-spec =
+    tie.close
+    (tie.spec Inv-loop μ-loop loop-holds mul-line array-copy-out-line mul-done array-read-done played-after-requires mul-next array-write-next add-k loop-less loop-again returns)

@@ -1,0 +1,6 @@
+pub mod Sub
+pub mod Mixer
+pub mod Orders
+pub mod Sounds
+pub mod ChunkOf
+pub mod MixerOk

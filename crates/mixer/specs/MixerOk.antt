@@ -1,0 +1,39 @@
+-- What a mixer keeps to while an accepted scene is rendered: every value stays in its range, so that what is read of it is a number of at most 20 dB.
+use mathlib.Core.Path.{_≡_}
+use Prim.Native.Nat.{ℕ, _+_, _*_, _^_, _≤_, _<_}
+use lib.Dec.{T}
+use lib.ListN.{getD, length}
+use Rattle.decibels.specs.Decibels.{admitted}
+use Rattle.clock.specs.WhenToStart.{ClocksWithin}
+use Rattle.parameter.specs.ParameterLaws.{ParameterIn, valueRange}
+use Rattle.playback.specs.PlaybackStateManagerLaws.{Runs}
+use Rattle.scene.specs.declared.scene.Scene.{Scene}
+use Rattle.accepted.specs.Lines.{soundLine}
+use Rattle.mixer.specs.declared.sub.Track.{Track}
+use Rattle.mixer.specs.declared.mixer.Mixer.{Mixer}
+use Rattle.mixer.specs.Mixer.{stateOf, parameterOf}
+
+pub record TrackOk (clocks : ℕ) (t : Track) : Type 0 where
+  pub volume : ParameterIn valueRange (t .volume)
+  pub playback : Runs clocks (t .playback)
+
+-- after so many chunks
+pub record MixerOk (s : Scene) (chunks : ℕ) (m : Mixer) : Type 0 where
+  pub clockCount : m .clocks .count ≡ s .«clock_count»
+  pub clocks : ClocksWithin (chunks * 1001) (m .clocks)
+  pub main : ParameterIn valueRange (m .«main_volume»)
+  pub trackPlaces : length (m .tracks) ≡ 32
+  pub sendPlaces : length (m .sends) ≡ 8
+  pub routePlaces : length (m .routes) ≡ 64
+  pub soundPlaces : length (m .played) ≡ 64
+  pub tracks : (t : ℕ) → t < s .«track_count» → TrackOk (s .«clock_count») (stateOf (m .tracks) t)
+  pub sends : (i : ℕ) → i < s .«send_count» → ParameterIn valueRange (parameterOf (m .sends) i)
+  pub routes : (r : ℕ) → r < s .«route_count» → ParameterIn valueRange (parameterOf (m .routes) r)
+  pub played : (k : ℕ) → k < s .«sound_count» → getD (m .played) k 0 ≤ soundLine s k .count
+
+-- what making a chunk asks of the mixer
+pub record MixerMixes (s : Scene) (m : Mixer) : Type 0 where
+  pub routes : (r : ℕ) → r < s .«route_count» → T (admitted (parameterOf (m .routes) r .«raw_value» .0))
+  pub played : (k : ℕ) → k < s .«sound_count» → getD (m .played) k 0 ≤ soundLine s k .count
+  -- the program can count a sound's frames
+  pub room : (k : ℕ) → k < s .«sound_count» → soundLine s k .first + soundLine s k .count < 2 ^ 63

@@ -1,0 +1,283 @@
+// The orders of a block, read at its start: they stand for kira's command readers.
+ghost use mathlib.Core.Path.{_≡_};
+ghost use Prim.Native.Nat.{_≤_, _<_};
+ghost use Rattle.accepted.specs.SceneOk.{SceneOk, OrderOk, Names};
+ghost use Rattle.parameter.specs.Parameter.{parameterSet};
+ghost use Rattle.mixer.specs.Sub.{trackSet, trackPause, trackResume};
+ghost use Rattle.mixer.specs.Orders.{kindNumber, alike, foundLater, overridden, counts, tweenOf, resumeTweenOf, withMain, withTrack, withSend, withRoute, orderedBy, resumedBy, orderStep, resumeStep, mixerOrdered};
+ghost use Rattle.laws.specs.Loop.{upto};
+use crate::mixer::Mixer;
+use decibels::Decibels;
+use scene::OrderKind;
+use scene::OrderLine;
+use scene::Scene;
+use tween::StartTime;
+use tween::Tween;
+
+fn kind_number(kind: OrderKind) -> u32
+    ensures { λ r. ⌜ r ≡ kindNumber kind ⌝ }
+{
+    match kind {
+        OrderKind::MainVolume => 0,
+        OrderKind::TrackVolume => 1,
+        OrderKind::SendVolume => 2,
+        OrderKind::RouteVolume => 3,
+        OrderKind::Pause => 4,
+        OrderKind::Resume => 5,
+    }
+}
+
+// Of one block, and alike in kind and index.
+fn alike(a: OrderLine, b: OrderLine) -> bool
+    ensures { λ r. ⌜ r ≡ alike a b ⌝ }
+{
+    if a.block != b.block {
+        return false;
+    }
+    let kind = a.kind;
+    let other = b.kind;
+    if kind_number(kind) != kind_number(other) {
+        return false;
+    }
+    a.index == b.index
+}
+
+// Whether one of two orders stands on a later line and is alike, or such a one was found before.
+fn found_later(order: OrderLine, other: OrderLine, i: usize, j: usize, found: bool) -> bool
+    ensures { λ r. ⌜ r ≡ foundLater order other i j found ⌝ }
+{
+    if j <= i {
+        return found;
+    }
+    if alike(order, other) {
+        return true;
+    }
+    found
+}
+
+// Whether a later order is alike.
+fn overridden(orders: [OrderLine; 128], count: usize, i: usize) -> bool
+    requires { ⌜ count ≤ 128 ⌝ }
+    requires { ⌜ i < count ⌝ }
+    ensures { λ r. ⌜ r ≡ overridden orders count i ⌝ }
+{
+    let order = orders[i];
+    let mut found = false;
+    let mut j = 0;
+    while j < count {
+        let other = orders[j];
+        found = found_later(order, other, i, j, found);
+        j += 1;
+    }
+    found
+}
+
+fn counts(orders: [OrderLine; 128], count: usize, block: usize, i: usize) -> bool
+    requires { ⌜ count ≤ 128 ⌝ }
+    requires { ⌜ i < count ⌝ }
+    ensures { λ r. ⌜ r ≡ counts orders count block i ⌝ }
+{
+    let order = orders[i];
+    if order.block != block {
+        return false;
+    }
+    !overridden(orders, count, i)
+}
+
+fn tween_of(order: OrderLine) -> Tween
+    requires { ⌜ order .millis ≤ 3600000 ⌝ }
+    ensures { λ r. ⌜ r ≡ tweenOf order ⌝ }
+{
+    let start_time = order.start_time;
+    let easing = order.easing;
+    Tween {
+        start_time,
+        duration: order.millis as u32,
+        easing,
+    }
+}
+
+// The fade of a resume starts at once: the order's start is the resume's.
+fn resume_tween_of(order: OrderLine) -> Tween
+    requires { ⌜ order .millis ≤ 3600000 ⌝ }
+    ensures { λ r. ⌜ r ≡ resumeTweenOf order ⌝ }
+{
+    let easing = order.easing;
+    Tween {
+        start_time: StartTime::Immediate,
+        duration: order.millis as u32,
+        easing,
+    }
+}
+
+impl Mixer {
+    fn set_main_volume(mut self, target: Decibels, tween: Tween) -> Mixer
+        ensures { λ r. ⌜ r ≡ withMain (λ p. parameterSet p target tween) self ⌝ }
+    {
+        let volume = self.main_volume;
+        self.main_volume = volume.set(target, tween);
+        self
+    }
+
+    fn set_track_volume(mut self, line: usize, target: Decibels, tween: Tween) -> Mixer
+        requires { ⌜ Names 32 line ⌝ }
+        ensures { λ r. ⌜ r ≡ withTrack line (λ t. trackSet t target tween) self ⌝ }
+    {
+        let i = line - 1;
+        let mut tracks = self.tracks;
+        let track = tracks[i];
+        tracks[i] = track.set_volume(target, tween);
+        self.tracks = tracks;
+        self
+    }
+
+    fn set_send_volume(mut self, line: usize, target: Decibels, tween: Tween) -> Mixer
+        requires { ⌜ Names 8 line ⌝ }
+        ensures { λ r. ⌜ r ≡ withSend line (λ p. parameterSet p target tween) self ⌝ }
+    {
+        let i = line - 1;
+        let mut sends = self.sends;
+        let volume = sends[i];
+        sends[i] = volume.set(target, tween);
+        self.sends = sends;
+        self
+    }
+
+    fn set_route_volume(mut self, line: usize, target: Decibels, tween: Tween) -> Mixer
+        requires { ⌜ Names 64 line ⌝ }
+        ensures { λ r. ⌜ r ≡ withRoute line (λ p. parameterSet p target tween) self ⌝ }
+    {
+        let i = line - 1;
+        let mut routes = self.routes;
+        let volume = routes[i];
+        routes[i] = volume.set(target, tween);
+        self.routes = routes;
+        self
+    }
+
+    fn pause_track(mut self, line: usize, tween: Tween) -> Mixer
+        requires { ⌜ Names 32 line ⌝ }
+        ensures { λ r. ⌜ r ≡ withTrack line (λ t. trackPause t tween) self ⌝ }
+    {
+        let i = line - 1;
+        let mut tracks = self.tracks;
+        let track = tracks[i];
+        tracks[i] = track.pause(tween);
+        self.tracks = tracks;
+        self
+    }
+
+    fn resume_track(mut self, line: usize, start: StartTime, tween: Tween) -> Mixer
+        requires { ⌜ Names 32 line ⌝ }
+        ensures { λ r. ⌜ r ≡ withTrack line (λ t. trackResume t start tween) self ⌝ }
+    {
+        let i = line - 1;
+        let mut tracks = self.tracks;
+        let track = tracks[i];
+        tracks[i] = track.resume(start, tween);
+        self.tracks = tracks;
+        self
+    }
+
+    // Volumes and pauses.
+    fn order(self, scene: Scene, order: OrderLine) -> Mixer
+        requires { ⌜ SceneOk scene ⌝ }
+        requires { ⌜ OrderOk scene order ⌝ }
+        ensures { λ r. ⌜ r ≡ orderedBy (order .kind) order self ⌝ }
+    {
+        let tween = tween_of(order);
+        let target = order.target;
+        let line = order.index;
+        let kind = order.kind;
+        match kind {
+            OrderKind::MainVolume => self.set_main_volume(target, tween),
+            OrderKind::TrackVolume => self.set_track_volume(line, target, tween),
+            OrderKind::SendVolume => self.set_send_volume(line, target, tween),
+            OrderKind::RouteVolume => self.set_route_volume(line, target, tween),
+            OrderKind::Pause => self.pause_track(line, tween),
+            OrderKind::Resume => self,
+        }
+    }
+
+    fn resume(self, scene: Scene, order: OrderLine) -> Mixer
+        requires { ⌜ SceneOk scene ⌝ }
+        requires { ⌜ OrderOk scene order ⌝ }
+        ensures { λ r. ⌜ r ≡ resumedBy (order .kind) order self ⌝ }
+    {
+        let tween = resume_tween_of(order);
+        let start = order.start_time;
+        let line = order.index;
+        let kind = order.kind;
+        match kind {
+            OrderKind::MainVolume => self,
+            OrderKind::TrackVolume => self,
+            OrderKind::SendVolume => self,
+            OrderKind::RouteVolume => self,
+            OrderKind::Pause => self,
+            OrderKind::Resume => self.resume_track(line, start, tween),
+        }
+    }
+
+    // Line i, where it counts in this block.
+    fn order_at(self, scene: Scene, block: usize, i: usize) -> Mixer
+        requires { ⌜ SceneOk scene ⌝ }
+        requires { ⌜ i < scene .«order_count» ⌝ }
+        ensures { λ r. ⌜ r ≡ orderStep scene block i self ⌝ }
+    {
+        let orders = scene.orders;
+        if counts(orders, scene.order_count, block, i) {
+            let order = orders[i];
+            return self.order(scene, order);
+        }
+        self
+    }
+
+    fn resume_at(self, scene: Scene, block: usize, i: usize) -> Mixer
+        requires { ⌜ SceneOk scene ⌝ }
+        requires { ⌜ i < scene .«order_count» ⌝ }
+        ensures { λ r. ⌜ r ≡ resumeStep scene block i self ⌝ }
+    {
+        let orders = scene.orders;
+        if counts(orders, scene.order_count, block, i) {
+            let order = orders[i];
+            return self.resume(scene, order);
+        }
+        self
+    }
+
+    fn with_orders(self, scene: Scene, block: usize) -> Mixer
+        requires { ⌜ SceneOk scene ⌝ }
+        ensures { λ r. ⌜ r ≡ upto (orderStep scene block) (scene .«order_count») self ⌝ }
+    {
+        let count = scene.order_count;
+        let mut mixer = self;
+        let mut i = 0;
+        while i < count {
+            mixer = mixer.order_at(scene, block, i);
+            i += 1;
+        }
+        mixer
+    }
+
+    fn with_resumes(self, scene: Scene, block: usize) -> Mixer
+        requires { ⌜ SceneOk scene ⌝ }
+        ensures { λ r. ⌜ r ≡ upto (resumeStep scene block) (scene .«order_count») self ⌝ }
+    {
+        let count = scene.order_count;
+        let mut mixer = self;
+        let mut i = 0;
+        while i < count {
+            mixer = mixer.resume_at(scene, block, i);
+            i += 1;
+        }
+        mixer
+    }
+
+    // A track reads volume, routes, pause, then resume: so resumes come after all others.
+    pub fn on_start_processing(self, scene: Scene, block: usize) -> Mixer
+        requires { ⌜ SceneOk scene ⌝ }
+        ensures { λ r. ⌜ r ≡ mixerOrdered scene block self ⌝ }
+    {
+        self.with_orders(scene, block).with_resumes(scene, block)
+    }
+}

@@ -1,0 +1,73 @@
+// Sounds, ours: how many frames each has played.
+ghost use mathlib.Core.Path.{_≡_};
+ghost use Prim.Native.Nat.{ℕ, _≤_, _<_};
+ghost use lib.ListN.{getD};
+ghost use Rattle.accepted.specs.Lines.{absentSound};
+ghost use Rattle.accepted.specs.SceneOk.{SceneOk};
+ghost use Rattle.mixer.specs.Sounds.{playedMore, playedAfter, playedOn, soundsPlayed};
+use crate::mixer::Mixer;
+use crate::mixer::live_above;
+use crate::sub::Track;
+use scene::Scene;
+use scene::SoundLine;
+
+// So many frames more, and the sound's count at most.
+fn played_more(line: SoundLine, frames: usize, done: usize) -> usize
+    requires { ⌜ done ≤ line .count ⌝ }
+    ensures { λ r. ⌜ r ≡ playedMore line frames done ⌝ }
+{
+    if line.count - done < frames {
+        return line.count;
+    }
+    done + frames
+}
+
+fn played_after(tracks: [Track; 32], line: SoundLine, frames: usize, done: usize) -> usize
+    requires { ⌜ done ≤ line .count ⌝ }
+    requires { ⌜ line .track ≤ 32 ⌝ }
+    ensures { λ r. ⌜ r ≡ playedAfter tracks line frames done ⌝ }
+{
+    if live_above(tracks, line.track) {
+        return played_more(line, frames, done);
+    }
+    done
+}
+
+fn played_on(
+    played: [usize; 64],
+    lines: [SoundLine; 64],
+    count: usize,
+    tracks: [Track; 32],
+    frames: usize,
+) -> [usize; 64]
+    requires { ⌜ count ≤ 64 ⌝ }
+    requires { ⌜ ((k : ℕ) → k < count → getD lines k absentSound .track ≤ 32) ⌝ }
+    requires { ⌜ ((k : ℕ) → k < count → getD played k 0 ≤ getD lines k absentSound .count) ⌝ }
+    ensures { λ r. ⌜ r ≡ playedOn lines count tracks frames played ⌝ }
+{
+    let mut next = played;
+    let mut k = 0;
+    while k < count {
+        let line = lines[k];
+        let done = played[k];
+        next[k] = played_after(tracks, line, frames, done);
+        k += 1;
+    }
+    next
+}
+
+impl Mixer {
+    // The sounds of the main track and of live tracks have played so many frames more.
+    pub fn sounds_played(mut self, scene: Scene, frames: usize) -> Mixer
+        requires { ⌜ SceneOk scene ⌝ }
+        requires { ⌜ ((k : ℕ) → k < scene .«sound_count» → getD (self .played) k 0 ≤ getD (scene .sounds) k absentSound .count) ⌝ }
+        ensures { λ r. ⌜ r ≡ soundsPlayed scene frames self ⌝ }
+    {
+        let lines = scene.sounds;
+        let tracks = self.tracks;
+        let before = self.played;
+        let played = played_on(before, lines, scene.sound_count, tracks, frames);
+        self.played = played;
+        self
+    }
+}
