@@ -1,0 +1,59 @@
+-- When two scenes are alike but for what lies inside chosen tracks (document 01, "Demand 3's words"). A scene is its tables and its samples.
+use mathlib.Core.Bool.{Bool, true, false, cond, _&&_, _||_}
+use mathlib.Core.List.{List, [], _∷_, map}
+use Prim.Native.Nat.{ℕ, _*_}
+use lib.Dec.{eqb}
+use lib.ListN.{length, set, take, drop}
+use lib.Ieee.{Float, binary32, toBits}
+use Rattle.laws.specs.Kept.{keptOf}
+use Rattle.scene_tables.specs.Bytes.{every}
+use Rattle.scene_tables.specs.Tables.{natural, head, clocks, tracks, sends, routes, sounds, orders}
+use Rattle.scene_questions.specs.Questions.{Tables, rowsAt, linesAt, field}
+use Rattle.noninterference.specs.Removed.{Choice, keptTracks, keptSounds, left, leftTables}
+use Rattle.noninterference.specs.Silent.{muted, held}
+
+-- two lists whose elements are the same, one by one
+unfoldable pub same : {X : Type 0} → (X → X → Bool) → List X → List X → Bool
+same test [] [] = true
+same test [] (y ∷ m) = false
+same test (x ∷ l) [] = false
+same test (x ∷ l) (y ∷ m) = test x y && same test l m
+
+-- Lines left are the same in the same order. Where a sound's frames stand in the samples may differ: its frames are compared below.
+unfoldable pub sameLines : Tables → Tables → ℕ → Bool
+sameLines left₁ left₂ t = same (same eqb) (rowsAt left₁ t) (rowsAt left₂ t)
+
+unfoldable pub unplaced : List (List ℕ) → List (List ℕ)
+unplaced rows = map (λ row. set row 1 0) rows
+
+unfoldable pub sameTables : Tables → Tables → Bool
+sameTables left₁ left₂ =
+    sameLines left₁ left₂ head
+    && (sameLines left₁ left₂ clocks
+    && (sameLines left₁ left₂ tracks
+    && (sameLines left₁ left₂ sends
+    && (sameLines left₁ left₂ routes
+    && (same (same eqb) (unplaced (rowsAt left₁ sounds)) (unplaced (rowsAt left₂ sounds)) && sameLines left₁ left₂ orders)))))
+
+-- which of the tracks left are chosen
+unfoldable pub chosenLeft : Tables → Choice → List (List ℕ)
+chosenLeft ts chosen = left (keptTracks ts chosen) (λ t row. cond (chosen t) (1 ∷ []) (0 ∷ [])) (rowsAt ts tracks)
+
+-- the samples of the frames that each sound left plays: count frames from first on
+unfoldable pub framesLeft : Tables → Choice → List Float → List (List Float)
+framesLeft ts chosen samples =
+    map (λ row. take (2 * natural (field row 2)) (drop (2 * natural (field row 1)) samples)) (keptOf (keptSounds ts chosen) (rowsAt ts sounds))
+
+unfoldable pub sameBits : Float → Float → Bool
+sameBits x y = eqb (toBits binary32 x) (toBits binary32 y)
+
+-- each chosen track is silent
+unfoldable pub silentChoice : Tables → Choice → Bool
+silentChoice ts chosen = every (linesAt ts tracks) (λ t. cond (chosen t) (muted ts t || held ts t) true)
+
+unfoldable pub alike : Tables → List Float → Choice → Tables → List Float → Choice → Bool
+alike ts₁ samples₁ chosen₁ ts₂ samples₂ chosen₂ =
+    sameTables (leftTables ts₁ chosen₁) (leftTables ts₂ chosen₂)
+    && (same (same eqb) (chosenLeft ts₁ chosen₁) (chosenLeft ts₂ chosen₂)
+    && (same (same sameBits) (framesLeft ts₁ chosen₁ samples₁) (framesLeft ts₂ chosen₂ samples₂)
+    && (silentChoice ts₁ chosen₁ && silentChoice ts₂ chosen₂)))

@@ -1,0 +1,87 @@
+-- What lies inside chosen tracks (document 01, "Demand 3's words"). 01 calls the lines that are removed here struck.
+-- A choice says of each line of the tracks table, counted from 0, whether it is chosen.
+use mathlib.Core.Bool.{Bool, true, false, cond, not, _||_}
+use mathlib.Core.List.{List, [], _∷_}
+use Prim.Native.Nat.{ℕ, zero, suc}
+use lib.Dec.{eqb}
+use lib.ListN.{length, set}
+use Rattle.laws.specs.Kept.{keptOf}
+use Rattle.laws.specs.Loop.{changed}
+use Rattle.scene_tables.specs.Tables.{plus, natural, head, clocks, tracks, sends, routes, sounds, orders}
+use Rattle.scene_questions.specs.Questions.{Tables, rowsAt, field, cell, parentOf}
+use Rattle.noninterference.specs.Lines.{newLine}
+
+abbrev pub Choice : Type 0
+Choice = ℕ → Bool
+
+-- Whether a track, by its line number from 1, is chosen or stands below a chosen one. A parent stands on an earlier line, so as
+-- many steps as the line's number are enough.
+unfoldable pub insideWithin : ℕ → Tables → Choice → ℕ → Bool
+insideWithin zero ts chosen line = false
+insideWithin (suc steps) ts chosen zero = false
+insideWithin (suc steps) ts chosen (suc t) = chosen t || insideWithin steps ts chosen (parentOf (rowsAt ts tracks) (suc t))
+
+unfoldable pub inside : Tables → Choice → ℕ → Bool
+inside ts chosen line = insideWithin line ts chosen line
+
+-- ---- removed lines, counted from 0
+
+-- the tracks below chosen ones
+unfoldable pub removedTrack : Tables → Choice → ℕ → Bool
+removedTrack ts chosen t = inside ts chosen (parentOf (rowsAt ts tracks) (suc t))
+
+-- a line number from 1 that names a removed line
+unfoldable pub namesRemoved : (ℕ → Bool) → ℕ → Bool
+namesRemoved removed zero = false
+namesRemoved removed (suc i) = removed i
+
+unfoldable pub removedRoute : Tables → Choice → ℕ → Bool
+removedRoute ts chosen r = namesRemoved (removedTrack ts chosen) (natural (cell (rowsAt ts routes) r 0))
+
+-- the sounds of chosen tracks, and those of removed ones
+unfoldable pub removedSound : Tables → Choice → ℕ → Bool
+removedSound ts chosen k = inside ts chosen (natural (cell (rowsAt ts sounds) k 0))
+
+-- the orders that name a removed track or route: kind 2 is about send tracks, kind 3 about routes, and kind 0 names no line
+unfoldable pub removedOrder : Tables → Choice → ℕ → Bool
+removedOrder ts chosen i =
+    let kind = cell (rowsAt ts orders) i 1 in
+    let index = natural (cell (rowsAt ts orders) i 2) in
+    cond (eqb kind (plus 2)) false (cond (eqb kind (plus 3)) (namesRemoved (removedRoute ts chosen) index) (namesRemoved (removedTrack ts chosen) index))
+
+-- ---- the lines left, with references counted among those lines alone
+
+abbrev pub keptTracks : Tables → Choice → ℕ → Bool
+keptTracks ts chosen t = not (removedTrack ts chosen t)
+
+abbrev pub keptRoutes : Tables → Choice → ℕ → Bool
+keptRoutes ts chosen r = not (removedRoute ts chosen r)
+
+abbrev pub keptSounds : Tables → Choice → ℕ → Bool
+keptSounds ts chosen k = not (removedSound ts chosen k)
+
+abbrev pub keptOrders : Tables → Choice → ℕ → Bool
+keptOrders ts chosen i = not (removedOrder ts chosen i)
+
+-- a line whose field j names a line of a table
+unfoldable pub counted : (ℕ → Bool) → ℕ → List ℕ → List ℕ
+counted keep j row = set row j (plus (newLine keep (natural (field row j))))
+
+unfoldable pub countedOrder : Tables → Choice → List ℕ → List ℕ
+countedOrder ts chosen row =
+    cond (eqb (field row 1) (plus 2)) row (cond (eqb (field row 1) (plus 3)) (counted (keptRoutes ts chosen) 2 row) (counted (keptTracks ts chosen) 2 row))
+
+-- the lines left of a table, each made anew
+unfoldable pub left : (ℕ → Bool) → (ℕ → List ℕ → List ℕ) → List (List ℕ) → List (List ℕ)
+left keep f rows = keptOf keep (changed f (length rows) rows)
+
+unfoldable pub leftTables : Tables → Choice → Tables
+leftTables ts chosen =
+    rowsAt ts head
+    ∷ rowsAt ts clocks
+    ∷ left (keptTracks ts chosen) (λ t row. counted (keptTracks ts chosen) 0 row) (rowsAt ts tracks)
+    ∷ rowsAt ts sends
+    ∷ left (keptRoutes ts chosen) (λ r row. counted (keptTracks ts chosen) 0 row) (rowsAt ts routes)
+    ∷ left (keptSounds ts chosen) (λ k row. counted (keptTracks ts chosen) 0 row) (rowsAt ts sounds)
+    ∷ left (keptOrders ts chosen) (λ i row. countedOrder ts chosen row) (rowsAt ts orders)
+    ∷ []

@@ -1,0 +1,4 @@
+pub mod Renderer
+pub mod Channels
+pub mod Lengths
+pub mod RendererLaws

@@ -1,0 +1,146 @@
+// kira's backend/renderer.rs.
+ghost use mathlib.Core.Path.{_≡_};
+ghost use Prim.Native.Nat.{ℕ, _+_, _*_, _^_, _≤_, _<_};
+ghost use lib.ListN.{length};
+ghost use Rattle.laws.specs.Pieces.{pieces, putAt};
+ghost use Rattle.gain_table.specs.GainTable.{IsGainTable};
+ghost use Rattle.clock.specs.ChunkTime.{chunkTime};
+ghost use Rattle.accepted.specs.SceneOk.{SceneOk, SamplesOk};
+ghost use Rattle.track.specs.Frame.{frameAt, clamped};
+ghost use Rattle.mixer.specs.MixerOk.{MixerOk};
+ghost use Rattle.renderer.specs.Renderer.{chunkCount, chunkFrames, channelAt, channelsOf, inChunk, chunkDone, chunksDone, chunkSamples, blockSamples};
+use mixer::Mixer;
+use scene::Head;
+use scene::Scene;
+use track::Frame;
+use track::frame_at;
+
+fn chunk_count(head: Head) -> usize
+    requires { ⌜ (1 ≤ head .buffer) × (head .buffer ≤ 256) × (head .block ≤ 512) ⌝ }
+    ensures { λ r. ⌜ r ≡ chunkCount head ⌝ }
+{
+    (head.block + head.buffer - 1) / head.buffer
+}
+
+// A chunk of `buffer` frames, or what is left of the block.
+fn chunk_frames(head: Head, k: usize) -> usize
+    requires { ⌜ k * head .buffer ≤ head .block ⌝ }
+    requires { ⌜ head .block ≤ 512 ⌝ }
+    ensures { λ r. ⌜ r ≡ chunkFrames head k ⌝ }
+{
+    let left = head.block - k * head.buffer;
+    if left < head.buffer {
+        return left;
+    }
+    head.buffer
+}
+
+// (1.0 / rate) * n, as kira has it.
+fn chunk_seconds(rate: usize, frames: usize) -> f64
+    requires { ⌜ (rate ≤ 192000) × (frames ≤ 256) ⌝ }
+    ensures { λ r. ⌜ r ≡ chunkTime rate frames ⌝ }
+{
+    (1.0 / (rate as f64)) * (frames as f64)
+}
+
+// What channel c of a frame gets.
+fn channel_of(frame: Frame, channels: usize, c: usize) -> f32
+    ensures { λ r. ⌜ r ≡ channelAt channels frame c ⌝ }
+{
+    if channels == 1 {
+        return (frame.left + frame.right) / 2.0;
+    }
+    if c == 0 {
+        return frame.left;
+    }
+    if c == 1 {
+        return frame.right;
+    }
+    0.0
+}
+
+// A frame to its channels, from a place on.
+fn write_frame(out: &mut [f32], at: usize, channels: usize, frame: Frame)
+    requires { ⌜ at + channels ≤ length (now out) ⌝ }
+    ensures { λ _. ⌜ now (out .exit) ≡ putAt at (channelsOf channels frame) (now (out .entry)) ⌝ }
+{
+    let mut c = 0;
+    while c < channels {
+        out[at + c] = channel_of(frame, channels, c);
+        c += 1;
+    }
+}
+
+// Frames are clamped, and then folded to the channels.
+fn write_frames(out: &mut [f32], channels: usize, mix: &[f32], frames: usize)
+    requires { ⌜ length (now out) ≡ frames * channels ⌝ }
+    requires { ⌜ 2 * frames ≤ length (now mix) ⌝ }
+    requires { ⌜ (frames ≤ 256) × (channels ≤ 8) ⌝ }
+    ensures { λ _. ⌜ now (out .exit) ≡ pieces (λ i. channelsOf channels (clamped (frameAt (now (mix .entry)) i))) frames ⌝ }
+{
+    let mut i = 0;
+    while i < frames {
+        let frame = frame_at(mix, i).clamped();
+        write_frame(out, i * channels, channels, frame);
+        i += 1;
+    }
+}
+
+// Chunk k of a block: states move, frames are mixed, and then the sounds have played.
+fn process_chunk(
+    state: Mixer,
+    scene: Scene,
+    samples: &[f32],
+    table: &[u64; 1345],
+    k: usize,
+    out: &mut [f32],
+) -> Mixer
+    requires { ⌜ IsGainTable (now table) ⌝ }
+    requires { ⌜ SceneOk scene ⌝ }
+    requires { ⌜ SamplesOk scene (now samples) ⌝ }
+    requires { ⌜ ((c : ℕ) × MixerOk scene c state × (c ≤ 2 ^ 20)) ⌝ }
+    requires { ⌜ k * scene .head .buffer ≤ scene .head .block ⌝ }
+    requires { ⌜ length (now out) ≡ chunkFrames (scene .head) k * scene .head .channels ⌝ }
+    ensures state { λ r. ⌜ r ≡ chunkDone scene k state ⌝ }
+    ensures samples { λ _. ⌜ now (out .exit) ≡ chunkSamples scene (now (samples .entry)) k (inChunk scene k state) ⌝ }
+{
+    let head = scene.head;
+    let frames = chunk_frames(head, k);
+    let dt = chunk_seconds(head.rate, frames);
+    let moved = state.update(scene, dt);
+    let chunk = mixer::chunk_of(scene, moved, frames, table);
+    let mut mix = [0.0f32; 512];
+    track::process(chunk, table, samples, &mut mix);
+    write_frames(out, head.channels, &mix, frames);
+    moved.sounds_played(scene, frames)
+}
+
+// A block, from the mixer once its orders are read.
+pub fn process_block(
+    state: Mixer,
+    scene: Scene,
+    samples: &[f32],
+    table: &[u64; 1345],
+    out: &mut [f32],
+) -> Mixer
+    requires { ⌜ IsGainTable (now table) ⌝ }
+    requires { ⌜ SceneOk scene ⌝ }
+    requires { ⌜ SamplesOk scene (now samples) ⌝ }
+    requires { ⌜ ((c : ℕ) × MixerOk scene c state × (c + chunkCount (scene .head) ≤ 2 ^ 20)) ⌝ }
+    requires { ⌜ length (now out) ≡ scene .head .block * scene .head .channels ⌝ }
+    ensures state { λ r. ⌜ r ≡ chunksDone scene (chunkCount (scene .head)) state ⌝ }
+    ensures samples { λ _. ⌜ now (out .exit) ≡ blockSamples scene (now (samples .entry)) state ⌝ }
+{
+    let head = scene.head;
+    let channels = head.channels;
+    let count = chunk_count(head);
+    let mut mixer = state;
+    let mut k = 0;
+    while k < count {
+        let from = k * head.buffer * channels;
+        let to = from + chunk_frames(head, k) * channels;
+        mixer = process_chunk(mixer, scene, samples, table, k, &mut out[from..to]);
+        k += 1;
+    }
+    mixer
+}

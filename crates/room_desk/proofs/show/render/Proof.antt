@@ -1,0 +1,75 @@
+use mathlib.Core.Path.{_≡_, sym, ap, _∙_, subst}
+use Prim.Native.Nat.{_*_}
+use lib.ListN.{length}
+use Rattle.scene_file.specs.Grammar.{tablesOf}
+use Rattle.scene_questions.specs.Questions.{answer}
+use Rattle.scene.specs.declared.scene.Scene.{Scene}
+use Rattle.scene.specs.Scene.{sceneOf}
+use Rattle.accepted.specs.SceneOk.{SceneOk, SamplesOk}
+use Rattle.accepted.specs.Accepted.{accepted-ok, accepted-samples, accepted-length}
+use Rattle.renderer.specs.Renderer.{rendered}
+use Rattle.room_desk.specs.Render.{AreF32}
+use Rattle.room_desk.specs.RenderLaws.{answered-number, answered-scene, output-refused}
+use Rattle.room_desk.specs.Silence.{output-accepted, silence}
+use borrow.Author.Needs.{needs}
+use Rattle.room_desk.proofs.show.render.Statement.{statement}
+use Rattle.room_desk.proofs.show.render.Tie as tie
+use Rattle.room_desk.proofs.show.render.Reads as reads
+use Rattle.room_desk.proofs.show.render.Lts as lts
+use Rattle.room_desk.proofs.show.render_scene.Reads as render-scene-reads
+use Rattle.scene.proofs.read_scene.Reads as read-scene-reads
+
+-- src/show.rt:47:9
+read-scene-requires : tie.Need-read-scene-requires
+read-scene-requires c κs = search needs
+
+-- src/show.rt:49:9
+returns : tie.Need-returns
+returns c =
+    let args = c .before .before .before .before .before .before .args in
+    let number = answered-number (args .scene .now) (args .samples .now) (length (args .output .now)) (c .before .before .read-scene .ensures) in
+    let refuses : answer (args .scene .now) (args .samples .now) (length (args .output .now)) ≡ 0 → ⊥ = λ e. c .if1 .taken (number ∙ e) in
+    (number, (output-refused (args .scene .now) (args .samples .now) (args .output .now) refuses, λ file recordings there chosen others fit e f same. absurd (refuses e)))
+
+-- src/show.rt:52:5
+render-scene-requires : tie.Need-render-scene-requires
+render-scene-requires c κs =
+    let args = c .before .before .before .before .before .before .before .before .args in
+    let read = c .before .before .before .before .read-scene in
+    let n = length (args .output .now) in
+    let number = answered-number (args .scene .now) (args .samples .now) n (read .ensures) in
+    let accepted = sym number ∙ c .before .before .if1 .left in
+    let scene = answered-scene (args .scene .now) (args .samples .now) n (read .ensures) (c .before .before .if1 .left) in (
+      subst SceneOk (sym scene) (accepted-ok (args .scene .now) (args .samples .now) n accepted),
+      (
+        subst (λ (s : Scene). SamplesOk s (args .samples .now)) (sym scene) (accepted-samples (args .scene .now) (args .samples .now) n accepted),
+        accepted-length (args .scene .now) (args .samples .now) n accepted ∙ ap (λ (s : Scene). s .head .block * s .head .blocks * s .head .channels) (sym scene),
+      ),
+    )
+
+-- src/show.rt:42:1
+same-length : tie.Need-same-length
+same-length c = search needs
+
+-- src/show.rt:42:1
+returns-2 : tie.Need-returns-2
+returns-2 c =
+    let start = c .before .before .before .before .before .before .before .before .before .before .before in
+    let args = start .args in
+    let read = c .before .before .before .before .before .before .before .read-scene in
+    let n = length (args .output .now) in
+    let number = answered-number (args .scene .now) (args .samples .now) n (read .ensures) in
+    let accepted = sym number ∙ c .before .before .before .before .before .if1 .left in
+    let scene = answered-scene (args .scene .now) (args .samples .now) n (read .ensures) (c .before .before .before .before .before .if1 .left) in
+    let fit : AreF32 (args .samples .now) = λ i h. c .before .before .before .before .before .before .before .before .before .shared-slice-known2 .given i in
+    let written = c .before .before .render-scene .ensures ∙ ap (λ (s : Scene). rendered s (args .samples .now)) scene ∙ sym (output-accepted (args .scene .now) (args .samples .now) (args .output .now) accepted) in (
+      sym accepted,
+      (
+        written,
+        λ file recordings there chosen others fits e f same. written ∙ silence (args .scene .now) (args .samples .now) (args .output .now) chosen file recordings there others fit fits accepted f same,
+      ),
+    )
+
+pub render-spec : {M : Type 1} → statement M
+render-spec =
+    tie.close (tie.spec read-scene-requires returns render-scene-requires same-length returns-2)
