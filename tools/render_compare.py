@@ -56,6 +56,25 @@ def as_library(oracle, cases):
     return [(1, a, b, n if k == 1 else len(samples) // 4) for (k, a, b, n), (_, samples) in zip(cases, asked)]
 
 
+def largest():
+    """01's largest scene: every table full but the orders, 8 channels, 1,024 blocks of 512 frames."""
+    tracks = [(0 if t % 4 == 0 else t, -3000 - 10 * t) for t in range(32)]
+    routes = [(r // 2 + 1, (r + r // 16) % 8 + 1, -6000) for r in range(64)]
+    sounds = [(k % 33, 16 * k, 4096 - 16 * k) for k in range(64)]
+    tables = (
+        ("rate channels buffer block blocks volume", [(48000, 8, 128, 512, 1024, 0)]),
+        ("unit speed ticking", [(1, 2000, 1)] * 8),
+        ("parent volume", tracks),
+        ("volume", [(-2000,)] * 8),
+        ("track send volume", routes),
+        ("track first count", sounds),
+        ("block kind index volume clock when part millis easing power", []),
+    )
+    file = "\n".join(names + "\n" + "".join(" ".join(map(str, line)) + "\n" for line in lines) for names, lines in tables)
+    samples = b"".join(struct.pack("<f", ((i * 7919) % 2001 - 1000) / 1000) for i in range(8192))
+    return [(1, file.encode(), samples, 512 * 1024 * 8)]
+
+
 def main():
     parser = argparse.ArgumentParser()
     parser.add_argument("oracle")
@@ -67,10 +86,11 @@ def main():
     parser.add_argument("--pairs", type=int, default=2000)
     options = parser.parse_args()
     differ = 0
-    for kind, count in (("scenes", options.scenes), ("long", options.long), ("damaged", options.damaged), ("pairs", options.pairs)):
+    kinds = (("scenes", options.scenes), ("long", options.long), ("damaged", options.damaged), ("pairs", options.pairs), ("largest", 1))
+    for kind, count in kinds:
         if count == 0:
             continue
-        cases = made(kind, options.seed, count)
+        cases = largest() if kind == "largest" else made(kind, options.seed, count)
         numbers, samples, wrong, apart = {}, 0, 0, 0
         for first in range(0, len(cases), MOST):
             part = as_library(options.oracle, cases[first : first + MOST])
