@@ -1,1 +1,3 @@
+pub mod ShowRows
+pub mod ShowSettled
 pub mod Settled

@@ -11,14 +11,17 @@ use Rattle.parameter.specs.Rows.{parameterRows}
 use Rattle.parameter.specs.Settled as parameter
 use Rattle.clock.specs.Rows.{clockRows}
 use Rattle.clock.specs.Settled as clock
+use Rattle.settled.specs.ShowRows.{showRows}
+use Rattle.settled.specs.ShowSettled as show
 
 -- in 01's order
 abbrev pub settledRows : List Row
-settledRows = decibelsRows ++ (tweenRows ++ (playbackRows ++ (parameterRows ++ clockRows)))
+settledRows = decibelsRows ++ (tweenRows ++ (playbackRows ++ (parameterRows ++ (clockRows ++ showRows))))
 
 pub settled : Agree settledRows
 settled =
-    agree-join decibelsRows (tweenRows ++ (playbackRows ++ (parameterRows ++ clockRows))) decibels.settled
-    (agree-join tweenRows (playbackRows ++ (parameterRows ++ clockRows)) tween.settled
-    (agree-join playbackRows (parameterRows ++ clockRows) playback.settled
-    (agree-join parameterRows clockRows parameter.settled clock.settled)))
+    agree-join decibelsRows (tweenRows ++ (playbackRows ++ (parameterRows ++ (clockRows ++ showRows)))) decibels.settled
+    (agree-join tweenRows (playbackRows ++ (parameterRows ++ (clockRows ++ showRows))) tween.settled
+    (agree-join playbackRows (parameterRows ++ (clockRows ++ showRows)) playback.settled
+    (agree-join parameterRows (clockRows ++ showRows) parameter.settled
+    (agree-join clockRows showRows clock.settled show.settled))))
