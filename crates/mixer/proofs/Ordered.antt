@@ -1,8 +1,8 @@
 -- What the proofs of orders share: the line that an order names is there, one element of a mixer's arrays is stored, and a kind picks its arm.
 -- Assumes nothing.
 use mathlib.Core.Path.{_≡_, sym, ap, _∙_, subst}
-use mathlib.Core.Bool.{Bool, true, false, _&&_, true≢false}
-use Prim.Native.Nat.{ℕ, _-_, _≤_}
+use mathlib.Core.Bool.{Bool, true, false, _&&_}
+use Prim.Native.Nat.{ℕ, _-_}
 use native.Mathlib.Nat.{le-trans}
 use lib.ListN.{set}
 use Rattle.parameter.specs.declared.parameter.Parameter.{Parameter}

@@ -6,7 +6,7 @@ use native.Mathlib.Nat.{le-trans, le-of-lt, le-antisymm, lt-of-le-of-lt, mul-le-
 use native.Mathlib.Numerals.{add-one-le}
 use native.Mathlib.Omega.{arith}
 use lib.ListN.{getD, set}
-use Rattle.laws.specs.Loop.{upto, changed, upto-turn, upto-end, changed-end, changed-here}
+use Rattle.laws.specs.Loop.{upto, changed, upto-end, changed-end, changed-here}
 use Rattle.clock.specs.ClocksMove.{changed-turn-any}
 
 -- ---- an index below a count, and the count at most an array's length

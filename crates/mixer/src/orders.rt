@@ -42,7 +42,7 @@ fn alike(a: OrderLine, b: OrderLine) -> bool
     a.index == b.index
 }
 
-// Whether one of two orders stands on a later line and is alike, or such a one was found before.
+// Whether the other order, on line j, is later and alike, or such a one was found before.
 fn found_later(order: OrderLine, other: OrderLine, i: usize, j: usize, found: bool) -> bool
     ensures { λ r. ⌜ r ≡ foundLater order other i j found ⌝ }
 {

@@ -1,13 +1,11 @@
 -- `mixer::update_routes` meets its contract. The invariant: the routes below r have moved. Assumes nothing.
-use mathlib.Core.Path.{_≡_, sym, ap, _∙_}
-use Prim.Native.Nat.{ℕ, _-_, _≤_, zero-le}
+use mathlib.Core.Path.{_≡_, sym}
+use Prim.Native.Nat.{_-_, _≤_, zero-le}
 use native.Mathlib.Nat.{le-refl, lt-of-lt-of-le}
 use native.Mathlib.Numerals.{add-one-le}
 use lib.Dec.{lit<}
-use lib.ListN.{getD}
 use Rattle.laws.specs.Loop.{changed, changed-zero}
-use Rattle.accepted.specs.Lines.{absentRoute}
-use Rattle.mixer.specs.Mixer.{absentParameter, updatedWhere, routeUpdate, routesUpdate}
+use Rattle.mixer.specs.Mixer.{absentParameter, routeUpdate, routesUpdate}
 use Rattle.mixer.proofs.Turns.{scaled, next-fits, falls, line-within, turned, ended}
 use Rattle.mixer.proofs.mixer.update_routes.Statement.{statement}
 use Rattle.mixer.proofs.mixer.update_routes.Tie as tie

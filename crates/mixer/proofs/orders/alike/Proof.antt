@@ -1,11 +1,10 @@
 -- `orders::alike` meets its contract: the tests are the definition's. Assumes nothing.
 use mathlib.Core.Path.{_≡_, sym, ap₂, _∙_}
-use mathlib.Core.Bool.{Bool, true, false}
+use mathlib.Core.Bool.{Bool}
 use Prim.Native.Nat.{ℕ}
 use lib.Dec.{eqb}
 use borrow.Author.Tests.{eq-eqb, ne-eqb}
-use Rattle.scene.specs.declared.scene.OrderLine.{OrderLine}
-use Rattle.mixer.specs.Orders.{kindNumber, alike}
+use Rattle.mixer.specs.Orders.{alike}
 use Rattle.mixer.proofs.Ordered.{first-no, first-yes}
 use Rattle.mixer.proofs.orders.alike.Statement.{statement}
 use Rattle.mixer.proofs.orders.alike.Tie as tie

@@ -1,9 +1,7 @@
 -- `Track::moved` meets its contract. Assumes nothing.
 use mathlib.Core.Path.{ap, ap₂, _∙_}
 use mathlib.Core.Bool.{Bool, true}
-use Rattle.parameter.specs.declared.parameter.Parameter.{Parameter}
 use Rattle.parameter.specs.declared.parameter.ParameterUpdate.{ParameterUpdate}
-use Rattle.playback.specs.declared.playback_state_manager.PlaybackStateManager.{PlaybackStateManager}
 use Rattle.playback.specs.declared.playback_state_manager.PlaybackUpdate.{PlaybackUpdate}
 use Rattle.playback.specs.PlaybackStateManager.{isAdvancing}
 use Rattle.mixer.specs.declared.sub.Track.{Track}
