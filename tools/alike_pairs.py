@@ -1,0 +1,180 @@
+#!/usr/bin/env python3
+"""Writes the stored pairs of scenes of the crate `alike_pairs`, on which the definition of `alike` is computed.
+
+    tools/alike_pairs.py             writes Pairs.antt and Computed.antt of crates/alike_pairs/specs, and prints what the pairs are examples of
+    tools/alike_pairs.py --check     writes nothing, and says whether the files are as they would be written, spaces and line ends aside
+
+The pairs are those of oracle/scripts/pairs.py, small ones of the seeds below: alike ones with an example of everything in FEATURES, and a control pair of
+each kind, in which one rule is broken. `stored()` gives them to tools/render_vectors.py, so that their outputs are run too.
+"""
+import pathlib
+import sys
+
+ROOT = pathlib.Path(__file__).resolve().parent.parent
+sys.path.insert(0, str(ROOT / "oracle/scripts"))
+import pairs  # noqa: E402
+
+SPECS = ROOT / "crates/alike_pairs/specs"
+SEED, EACH, TRIES = 12, 3, 20000
+TABLES = ("head", "clocks", "tracks", "sends", "routes", "sounds", "orders")
+
+
+def rows(scene):
+    return sum(len(scene.tables[name]) for name in TABLES)
+
+
+def small(pair, most_samples):
+    return all(rows(s) <= 26 and len(s.samples) <= most_samples and s.output_length() <= 300 for s in pair.scenes)
+
+
+def silenced(pair):
+    """The kinds of the chosen tracks of the first scene."""
+    scene, chosen = pair.scenes[0], pair.chosen[0]
+    return {"muted" if pairs.is_muted(scene, t) else "held" for t in chosen}
+
+
+def sends_inside(pair):
+    scene, chosen = pair.scenes[0], pair.chosen[0]
+    held = [t for t in chosen if not pairs.is_muted(scene, t)]
+    return any(row[0] in pairs.below(scene, t) for t in held for row in scene.routes)
+
+
+FEATURES = {
+    "both kinds mixed": lambda p: silenced(p) == {"muted", "held"},
+    "other line numbers": lambda p: p.chosen[0] != p.chosen[1],
+    "other counts of lines inside": lambda p: rows(p.scenes[0]) != rows(p.scenes[1]),
+    "other sample lengths": lambda p: len(p.scenes[0].samples) != len(p.scenes[1].samples),
+    "nothing chosen": lambda p: not p.chosen[0],
+    "a held track whose children have sends": sends_inside,
+}
+
+
+def stored():
+    """(name, pair) of the alike ones, and of the control pairs."""
+    found, counts = [], dict.fromkeys(FEATURES, 0)
+    for n in range(TRIES):
+        if min(counts.values()) >= EACH:
+            break
+        pair = pairs.from_seed(SEED, n)
+        if not small(pair, 100):
+            continue
+        here = [name for name, test in FEATURES.items() if test(pair)]
+        if any(counts[name] < EACH for name in here):
+            assert pairs.alike(pair)
+            for name in here:
+                counts[name] += 1
+            found.append((f"pair{n}", pair))
+    assert min(counts.values()) >= EACH and len(found) >= 12, counts
+    controls = []
+    for kind in pairs.CONTROLS:
+        best = None
+        for n in range(400):
+            pair = pairs.from_seed(SEED, n, kind)
+            size = sum(rows(s) + len(s.samples) for s in pair.scenes)
+            if best is None or size < best[0]:
+                best = (size, pair)
+        assert not pairs.alike(best[1])
+        controls.append((kind, best[1]))
+    return found, controls, counts
+
+
+def listed(items):
+    return " ∷ ".join([*items, "[]"])
+
+
+def raised(n):
+    return f"plus {n}" if n >= 0 else f"minus {-n}"
+
+
+def table(lines):
+    return listed("(" + listed(raised(n) for n in line) + ")" for line in lines)
+
+
+def side(scene, chosen):
+    tables = listed("(" + table(scene.tables[name]) + ")" for name in TABLES)
+    samples = listed(str(b) for b in scene.samples)
+    lines = listed(str(t - 1) for t in chosen)
+    return f"record {{ tables = {tables}; bits = {samples}; chosen = {lines} }}"
+
+
+def named(name):
+    parts = name.replace("-", " ").split()
+    return parts[0] + "".join(p.capitalize() for p in parts[1:])
+
+
+def text(found, controls):
+    out = [
+        "-- Stored pairs of scenes, made by tools/alike_pairs.py: alike ones, and control pairs in which one rule is broken.",
+        "use mathlib.Core.List.{List, [], _∷_}",
+        "use Rattle.scene_tables.specs.Tables.{plus, minus}",
+        "use Rattle.alike_pairs.specs.Side.{Pair}",
+        "",
+    ]
+    for names, group in (("alikePairs", found), ("controlPairs", controls)):
+        for name, pair in group:
+            sides = [side(s, c) for s, c in zip(pair.scenes, pair.chosen)]
+            out += [f"abbrev pub {named(name)} : Pair", f"{named(name)} =", f"    record {{", f"      one = {sides[0]};", f"      other = {sides[1]};", "    }", ""]
+        out += [f"abbrev pub {names} : List Pair", f"{names} = {listed(named(name) for name, _ in group)}", ""]
+    return "\n".join(out).rstrip("\n") + "\n"
+
+
+HEAD = """-- `alike` says yes of each stored pair that is alike, and no of each control pair; made by tools/alike_pairs.py. A pair has a declaration of its own, since
+-- what one declaration may compute is limited.
+use mathlib.Core.Bool.{Bool, not}
+use mathlib.Core.List.{List, [], _∷_}
+use lib.Dec.{T}
+use lib.Ieee.{toBits, ofBits}
+use Rattle.laws.specs.Loop.{upto, changed}
+use Rattle.laws.specs.Kept.{rank, keptOf}
+use Rattle.scene_tables.specs.Bytes.{every}
+use Rattle.scene_questions.specs.Questions.{parentOf}
+use Rattle.noninterference.specs.Lines.{newLine}
+use Rattle.noninterference.specs.Removed.{insideWithin, inside, removedTrack, namesRemoved, removedRoute, removedSound, removedOrder, counted, countedOrder, left, leftTables}
+use Rattle.noninterference.specs.Silent.{silentVolume, names, muted, stops, holds, held}
+use Rattle.noninterference.specs.Alike.{same, sameLines, unplaced, sameTables, chosenLeft, framesLeft, sameBits, silentChoice, alike}
+use Rattle.alike_pairs.specs.Side.{Pair, choiceOf, alikePair}
+use Rattle.alike_pairs.specs.Pairs.{PAIRS}
+
+-- every pair of a list
+abbrev pub Each : (Pair → Bool) → List Pair → Type 0
+Each f [] = Unit {0}
+Each f (p ∷ l) = T (f p) × Each f l
+"""
+UNFOLDED = (
+    "alikePair choiceOf alike sameTables sameLines same unplaced chosenLeft framesLeft sameBits silentChoice toBits ofBits leftTables left keptOf changed counted "
+    "countedOrder newLine rank insideWithin inside removedTrack removedRoute removedSound removedOrder namesRemoved parentOf muted silentVolume names held stops holds "
+    "every upto"
+)
+
+
+def computed(found, controls):
+    all_names = [named(name) for name, _ in found + controls] + ["alikePairs", "controlPairs"]
+    out = [HEAD.replace("PAIRS", ", ".join(all_names))]
+    for group, claim, suffix in ((found, "alikePair {}", "alike"), (controls, "not (alikePair {})", "not")):
+        for name, _ in group:
+            own = f"{named(name)}-{suffix}"
+            out.append(f"{own} : T ({claim.format(named(name))})\nunfolding {UNFOLDED}\n{own} = tt\n")
+    for name, test, group, suffix, pairs_name in (
+        ("all-alike", "alikePair", found, "alike", "alikePairs"),
+        ("no-control", "(λ p. not (alikePair p))", controls, "not", "controlPairs"),
+    ):
+        proofs = ", (".join(f"{named(n)}-{suffix}" for n, _ in group)
+        out.append(f"pub {name} : Each {test} {pairs_name}\n{name} = ({proofs}, tt{')' * len(group)}\n")
+    return "\n".join(out)
+
+
+def main():
+    found, controls, counts = stored()
+    files = {"Pairs.antt": text(found, controls), "Computed.antt": computed(found, controls)}
+    if sys.argv[1:] == ["--check"]:
+        same = all((SPECS / name).read_text().split() == written.split() for name, written in files.items())
+        print("as they would be written" if same else "not as they would be written")
+        sys.exit(not same)
+    for name, written in files.items():
+        (SPECS / name).write_text(written)
+    print(f"{len(found)} alike pairs:", ", ".join(f"{name} {n}" for name, n in counts.items()))
+    print(f"{len(controls)} control pairs:", ", ".join(kind for kind, _ in controls))
+
+
+if __name__ == "__main__":
+    main()
