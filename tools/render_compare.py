@@ -14,46 +14,15 @@ import struct
 import subprocess
 import sys
 
+from case_stream import answers, as_library, joined, split
+
 ROOT = pathlib.Path(__file__).resolve().parent.parent
 MOST = 200  # cases a run, so that streams stay small
-
-
-def split(stream):
-    """The cases of a stream: kind, scene, samples, output's length."""
-    at, cases = 0, []
-    while at < len(stream):
-        kind, scene, samples, length = struct.unpack_from("<4I", stream, at)
-        at += 16
-        cases.append((kind, stream[at : at + scene], stream[at + scene : at + scene + samples], length))
-        at += scene + samples
-    return cases
-
-
-def joined(cases):
-    return b"".join(struct.pack("<4I", k, len(a), len(b), n) + a + b for k, a, b, n in cases)
-
-
-def answers(program, cases):
-    """The answers of a program to a list of cases: number, samples' bytes."""
-    out = subprocess.run(program, input=joined(cases), stdout=subprocess.PIPE, check=True).stdout
-    at, found = 0, []
-    while at < len(out):
-        number, count = struct.unpack_from("<2I", out, at)
-        found.append((number, out[at + 8 : at + 8 + 4 * count]))
-        at += 8 + 4 * count
-    assert len(found) == len(cases), (len(found), len(cases))
-    return found
 
 
 def made(kind, seed, count):
     command = [sys.executable, ROOT / "oracle/scripts/cases.py", kind, str(seed), str(count)]
     return split(subprocess.run(command, stdout=subprocess.PIPE, check=True).stdout)
-
-
-def as_library(oracle, cases):
-    """Every case as one of the library. What the program is asked has the length that it answers with; a refused one keeps 0."""
-    asked = answers([oracle, "batch"], cases)
-    return [(1, a, b, n if k == 1 else len(samples) // 4) for (k, a, b, n), (_, samples) in zip(cases, asked)]
 
 
 def largest():
@@ -98,7 +67,7 @@ def main():
             ours = answers([options.driver], part)
             for case, a, b in zip(part, theirs, ours):
                 numbers[a[0]] = numbers.get(a[0], 0) + 1
-                samples += len(a[1]) // 4
+                samples += len(a[1])
                 if a != b:
                     wrong += 1
                     if wrong == 1 and differ == 0:

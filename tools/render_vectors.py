@@ -8,43 +8,15 @@ The scenes are the stored ones of oracle/scenes whose output is at most 600 samp
 It fails unless 200 scenes are there, and among them 1, 2, 3 and 8 channels, every easing, and orders of every kind.
 """
 import pathlib
-import struct
 import subprocess
 import sys
+
+from case_stream import answers, as_library, joined, split
 
 ROOT = pathlib.Path(__file__).resolve().parent.parent
 CRATE = ROOT / "crates/render_vectors"
 SEED, MADE, WANTED = 8, 6000, 170
 ROOM = 500000  # bytes that the program can read
-
-
-def split(stream):
-    at, cases = 0, []
-    while at < len(stream):
-        kind, scene, samples, length = struct.unpack_from("<4I", stream, at)
-        at += 16
-        cases.append((kind, stream[at : at + scene], stream[at + scene : at + scene + samples], length))
-        at += scene + samples
-    return cases
-
-
-def joined(cases):
-    return b"".join(struct.pack("<4I", k, len(a), len(b), n) + a + b for k, a, b, n in cases)
-
-
-def answers(oracle, cases):
-    out = subprocess.run([oracle, "batch"], input=joined(cases), stdout=subprocess.PIPE, check=True).stdout
-    at, found = 0, []
-    while at < len(out):
-        number, count = struct.unpack_from("<2I", out, at)
-        found.append((number, struct.unpack_from(f"<{count}I", out, at + 8)))
-        at += 8 + 4 * count
-    return found
-
-
-def as_library(oracle, cases):
-    asked = answers(oracle, cases)
-    return [(1, a, b, n if k == 1 else len(samples)) for (k, a, b, n), (_, samples) in zip(cases, asked)]
 
 
 def tables_of(scene):
@@ -89,7 +61,7 @@ def main():
     oracle = sys.argv[1]
     cases = chosen(oracle)
     lines = []
-    for case, (number, samples) in zip(cases, answers(oracle, cases)):
+    for case, (number, samples) in zip(cases, answers([oracle, "batch"], cases)):
         # on a refusal the program's buffer holds zeros
         lines += [number, *(samples if number == 0 else [0] * case[3])]
     files = {"stdin": joined(cases), "stdout": "".join(f"{n}\n" for n in lines).encode()}
@@ -99,7 +71,7 @@ def main():
         sys.exit(not same)
     for name, text in files.items():
         (CRATE / name).write_bytes(text)
-    silent = sum(not any(samples) for number, samples in answers(oracle, cases) if number == 0)
+    silent = sum(not any(samples) for number, samples in answers([oracle, "batch"], cases) if number == 0)
     print(f"{len(cases)} scenes, {len(lines) - len(cases)} samples, {silent} silent, {len(files['stdin'])} bytes in, {len(files['stdout'])} out")
 
 

@@ -1,0 +1,36 @@
+"""Streams of cases and answers, as `oracle batch` reads and writes them (oracle/README.md, "Cases"). For the scripts beside it."""
+import struct
+import subprocess
+
+
+def split(stream):
+    """The cases of a stream: kind, scene, samples, output's length."""
+    at, cases = 0, []
+    while at < len(stream):
+        kind, scene, samples, length = struct.unpack_from("<4I", stream, at)
+        at += 16
+        cases.append((kind, stream[at : at + scene], stream[at + scene : at + scene + samples], length))
+        at += scene + samples
+    return cases
+
+
+def joined(cases):
+    return b"".join(struct.pack("<4I", k, len(a), len(b), n) + a + b for k, a, b, n in cases)
+
+
+def answers(program, cases):
+    """A program's answers to a list of cases: number, bits of the samples."""
+    out = subprocess.run(program, input=joined(cases), stdout=subprocess.PIPE, check=True).stdout
+    at, found = 0, []
+    while at < len(out):
+        number, count = struct.unpack_from("<2I", out, at)
+        found.append((number, struct.unpack_from(f"<{count}I", out, at + 8)))
+        at += 8 + 4 * count
+    assert len(found) == len(cases), (len(found), len(cases))
+    return found
+
+
+def as_library(oracle, cases):
+    """Every case as one of the library. What the program is asked has the length that it answers with; a refused one keeps 0."""
+    asked = answers([oracle, "batch"], cases)
+    return [(1, a, b, n if k == 1 else len(samples)) for (k, a, b, n), (_, samples) in zip(cases, asked)]
