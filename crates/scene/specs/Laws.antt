@@ -5,3 +5,4 @@ pub mod Typed
 pub mod Whole
 pub mod Read
 pub mod Answer
+pub mod Length

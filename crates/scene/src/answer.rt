@@ -1,17 +1,19 @@
 // The answer to a file, its samples and an output's length.
 ghost use mathlib.Core.Path.{_≡_};
-ghost use Rattle.scene_questions.specs.Questions.{answerOfTables};
+ghost use Prim.Native.Nat.{_*_, _≤_};
+ghost use Rattle.scene_file.specs.Grammar.{tablesOf};
+ghost use Rattle.scene_questions.specs.Questions.{outputLength, answerOfTables};
 ghost use Rattle.scene_questions.specs.Places.{placed, Low};
 ghost use Rattle.scene.specs.Answer.{refusal, answered};
 use crate::lines::counts_fit;
 use crate::lines::tables_pass;
+use crate::scene::Head;
 use crate::scene::Scene;
 use crate::scene::no_scene;
 use crate::scene::scene_of;
 use scene_file::at;
 use scene_file::read_tables;
 use scene_questions::depths_fit;
-use scene_questions::length_ok;
 use scene_questions::routes_fit;
 use scene_questions::samples_ok;
 use scene_questions::size_ok;
@@ -28,16 +30,15 @@ pub struct Answer {
     pub scene: Scene,
 }
 
-// Questions 3 to 10.
+// Questions 3 to 9.
 fn number_of(
     values: &[u32],
     starts: &[usize; TABLES],
     counts: &[usize; TABLES],
     samples: &[f32],
-    output: usize,
 ) -> u32
     requires { ⌜ Low (now starts) (now counts) ⌝ }
-    ensures { λ r. ⌜ r ≡ answerOfTables (placed (now (starts .entry)) (now (counts .entry)) (now (values .entry))) (now (samples .entry)) output ⌝ }
+    ensures { λ r. ⌜ r ≡ answerOfTables (placed (now (starts .entry)) (now (counts .entry)) (now (values .entry))) (now (samples .entry)) (outputLength (placed (now (starts .entry)) (now (counts .entry)) (now (values .entry)))) ⌝ }
 {
     if !counts_fit(counts) {
         return 3;
@@ -61,9 +62,6 @@ fn number_of(
     if !samples_ok(samples) {
         return 9;
     }
-    if !length_ok(values, starts[HEAD], output) {
-        return 10;
-    }
     0
 }
 
@@ -74,9 +72,9 @@ fn refused(number: u32) -> Answer
     Answer { number, scene }
 }
 
-// The number of the first question that says no, or 0 and the scene.
-pub fn read_scene(file: &[u8], samples: &[f32], output: usize) -> Answer
-    ensures { λ r. ⌜ r ≡ answered (now (file .entry)) (now (samples .entry)) output ⌝ }
+// Questions 1 to 9: an output is made as long as the scene asks. The scene where none says no.
+pub fn read_unmeasured(file: &[u8], samples: &[f32]) -> Answer
+    ensures { λ r. ⌜ r ≡ answered (now (file .entry)) (now (samples .entry)) (outputLength (tablesOf (now (file .entry)))) ⌝ }
 {
     if !size_ok(file) {
         return refused(1);
@@ -88,10 +86,35 @@ pub fn read_scene(file: &[u8], samples: &[f32], output: usize) -> Answer
     }
     let starts = layout.starts;
     let counts = layout.counts;
-    let number = number_of(&values, &starts, &counts, samples, output);
+    let number = number_of(&values, &starts, &counts, samples);
     if number != 0 {
         return refused(number);
     }
     let scene = scene_of(&values, &starts, &counts);
     Answer { number: 0, scene }
+}
+
+// The output's length that question 10 asks for.
+fn output_length(head: Head) -> usize
+    requires { ⌜ head .block ≤ 512 ⌝ }
+    requires { ⌜ head .blocks ≤ 1024 ⌝ }
+    requires { ⌜ head .channels ≤ 8 ⌝ }
+    ensures { λ r. ⌜ r ≡ head .block * head .blocks * head .channels ⌝ }
+{
+    head.block * head.blocks * head.channels
+}
+
+// The number of the first question that says no, or 0 and the scene.
+pub fn read_scene(file: &[u8], samples: &[f32], output: usize) -> Answer
+    ensures { λ r. ⌜ r ≡ answered (now (file .entry)) (now (samples .entry)) output ⌝ }
+{
+    let answer = read_unmeasured(file, samples);
+    if answer.number != 0 {
+        return answer;
+    }
+    let head = answer.scene.head;
+    if output == output_length(head) {
+        return answer;
+    }
+    refused(10)
 }

@@ -5,6 +5,7 @@ mod scene;
 
 pub use answer::Answer;
 pub use answer::read_scene;
+pub use answer::read_unmeasured;
 pub use scene::ClockLine;
 pub use scene::Head;
 pub use scene::OrderKind;

@@ -1,11 +1,10 @@
 // Document 01's questions of a scene. All ten are defined in specs/Questions.antt; here is the code of
-// those that are asked of a whole: 1, and 6 to 10. `scene_file` asks 2; `scene` asks 3 to 5, of every
-// line, and answers.
+// those that are asked of a whole: 1, and 6 to 9. `scene_file` asks 2; `scene` asks 3 to 5, of every
+// line, and 10, of an output, and answers.
 mod lengths;
 mod samples;
 mod tracks;
 
-pub use lengths::length_ok;
 pub use lengths::size_ok;
 pub use samples::samples_ok;
 pub use samples::sounds_fit;

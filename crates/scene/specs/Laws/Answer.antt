@@ -1,26 +1,25 @@
 -- Laws of the answer: question after question, as the code asks them.
 use mathlib.Core.Path.{_≡_, refl, sym, _∙_, ap}
-use mathlib.Core.Bool.{Bool, true, false, cond, not, _&&_, true≢false}
+use mathlib.Core.Bool.{Bool, true, false, cond, not}
 use mathlib.Core.List.{List, [], _∷_}
-use Prim.Native.Nat.{ℕ, _+_, _*_, _≤_}
+use Prim.Native.Nat.{ℕ, suc, _+_, _*_, _≤_}
 use native.Mathlib.Omega.{arith}
-use borrow.Author.Tests.{eq-eqb, ne-eqb, leb-true, not-true, not-false}
-use lib.Dec.{eqb, leb}
+use borrow.Author.Tests.{eq-eqb, ne-eqb, eqb-true, not-true, not-false}
+use lib.Dec.{eqb}
 use lib.ListN.{length, getD}
 use lib.Ieee.{Float}
 use Rattle.scene_file.specs.declared.grammar.Layout.{Layout}
-use Rattle.scene_tables.specs.Tables.{tables, noTable, noField, width, natural}
+use Rattle.scene_tables.specs.Tables.{width}
 use Rattle.scene_file.specs.Grammar.{linesOf, blocksOf, areTables, tablesOf}
 use Rattle.scene_file.specs.Readings.{LayoutRead}
 use Rattle.scene.specs.declared.scene.Scene.{Scene}
 use Rattle.scene.specs.declared.answer.Answer.{Answer}
-use Rattle.scene_questions.specs.Questions.{Tables, rowsAt, cell, channels, block, blocks, sizeOk, spelledOk, linesOk, inRange, rangesOk, referencesOk, depthsFit, depthsOk, routesFit, routesOk, soundsFit, soundsOk, samplesOk, outputLength, lengthOk, asked, answerOfTables, answer}
+use Rattle.scene_questions.specs.Questions.{Tables, sizeOk, spelledOk, linesOk, rangesOk, depthsFit, depthsOk, routesFit, routesOk, soundsFit, soundsOk, samplesOk, outputLength, lengthOk, asked, answerOfTables, answer}
 use Rattle.scene_questions.specs.Places.{rowsIn, placed, countAt, countsFit, tablesPass, Low}
 use Rattle.scene.specs.Scene.{sceneOf, noScene}
 use Rattle.scene.specs.Answer.{refusal, answered}
-use Rattle.scene_questions.specs.Laws.Loops.{and-right}
 use Rattle.scene_questions.specs.Laws.Lengths.{size-small}
-use Rattle.scene.specs.Laws.Whole.{rows-placed, counts-are, ranges-are, references-are, head-cell, head-range}
+use Rattle.scene.specs.Laws.Whole.{rows-placed, counts-are, ranges-are, references-are, head-cell}
 use Rattle.scene.specs.Laws.Read.{read-placed}
 
 -- ---- tables that lie low
@@ -38,7 +37,7 @@ module _ (starts counts : List ℕ) (low : Low starts counts) where
   unfolding width
   low-sounds = low 5 (omega arith)
 
--- ---- 3 to 10
+-- ---- 3 to 9
 
 asked-same : (n : ℕ) {b c : Bool} {x y : ℕ} → b ≡ c → x ≡ y → asked b n x ≡ asked c n y
 asked-same n e f = rw (e, f)
@@ -47,8 +46,17 @@ asked-true : (n x : ℕ) → asked true n x ≡ x
 unfolding asked
 asked-true n x = refl
 
-module _ (starts counts v : List ℕ) (samples : List Float) (output : ℕ) where
-  pub number-3 : (b : Bool) → b ≡ countsFit counts → not b ≡ true → 3 ≡ answerOfTables (placed starts counts v) samples output
+-- an output of its length passes question 10
+pub length-asked : (ts : Tables) → asked (lengthOk ts (outputLength ts)) 10 0 ≡ 0
+unfolding lengthOk asked
+length-asked ts = rw (eq-eqb (outputLength ts) (outputLength ts) refl)
+
+-- the answer with question 10 left out, of the places
+abbrev pub unmeasured : List ℕ → List ℕ → List ℕ → List Float → ℕ
+unmeasured starts counts v samples = answerOfTables (placed starts counts v) samples (outputLength (placed starts counts v))
+
+module _ (starts counts v : List ℕ) (samples : List Float) where
+  pub number-3 : (b : Bool) → b ≡ countsFit counts → not b ≡ true → 3 ≡ unmeasured starts counts v samples
   unfolding answerOfTables asked
   number-3 b e h = rw (counts-are starts counts v, ← e, not-true b h)
 
@@ -60,11 +68,6 @@ module _ (starts counts v : List ℕ) (samples : List Float) (output : ℕ) wher
     ranges-same =
         ranges-are starts counts v (countAt counts)
         ∙ ap (λ (z : ℕ). tablesPass false (countAt counts) z starts counts v) (head-cell starts counts v fit 4 (omega arith) ∙ sym isblk)
-
-    length-same : lengthOk (placed starts counts v) output
-        ≡ eqb output (natural (getD v (getD starts 0 0 + 3) 0) * natural (getD v (getD starts 0 0 + 4) 0) * natural (getD v (getD starts 0 0 + 1) 0))
-    unfolding lengthOk outputLength
-    length-same = rw (head-cell starts counts v fit 3 (omega arith), head-cell starts counts v fit 4 (omega arith), head-cell starts counts v fit 1 (omega arith))
 
     depths-same : depthsOk (placed starts counts v) ≡ depthsFit (rowsIn v (getD starts 2 0) 2 (getD counts 2 0))
     unfolding depthsOk width
@@ -79,94 +82,64 @@ module _ (starts counts v : List ℕ) (samples : List Float) (output : ℕ) wher
     sounds-same = ap (λ (R : List (List ℕ)). soundsFit R samples) (rows-placed starts counts v 5 (omega arith))
 
     -- the questions left, of the places
-    number-rest : answerOfTables (placed starts counts v) samples output
+    number-rest : unmeasured starts counts v samples
         ≡ asked (tablesPass false (countAt counts) blk starts counts v) 4
         (asked (tablesPass true (countAt counts) blk starts counts v) 5
         (asked (depthsFit (rowsIn v (getD starts 2 0) 2 (getD counts 2 0))) 6
         (asked (routesFit (rowsIn v (getD starts 4 0) 3 (getD counts 4 0))) 7
         (asked (soundsFit (rowsIn v (getD starts 5 0) 3 (getD counts 5 0)) samples) 8
-        (asked (samplesOk samples) 9
-        (asked (eqb output (natural (getD v (getD starts 0 0 + 3) 0) * natural (getD v (getD starts 0 0 + 4) 0) * natural (getD v (getD starts 0 0 + 1) 0))) 10 0))))))
+        (asked (samplesOk samples) 9 0)))))
     unfolding answerOfTables
     number-rest =
-        ap (λ (q : Bool). asked q 3 (asked (rangesOk (placed starts counts v)) 4 (asked (referencesOk (placed starts counts v)) 5 (asked (depthsOk (placed starts counts v)) 6 (asked (routesOk (placed starts counts v)) 7 (asked (soundsOk (placed starts counts v) samples) 8 (asked (samplesOk samples) 9 (asked (lengthOk (placed starts counts v) output) 10 0)))))))) (counts-are starts counts v ∙ fit)
+        asked-same 3 (counts-are starts counts v ∙ fit)
+        (asked-same 4 ranges-same (asked-same 5 (references-are starts counts v blk) (asked-same 6 depths-same (asked-same 7 routes-same (asked-same 8 sounds-same (asked-same 9 refl (length-asked (placed starts counts v))))))))
         ∙ asked-true 3 _
-        ∙ asked-same 4 ranges-same (asked-same 5 (references-are starts counts v blk) (asked-same 6 depths-same (asked-same 7 routes-same (asked-same 8 sounds-same (asked-same 9 refl (asked-same 10 length-same refl))))))
-
-    -- what questions 3 and 4 say of the head line
-    head-known : (b : Bool) → b ≡ tablesPass false (countAt counts) blk starts counts v → not b ≡ false → rangesOk (placed starts counts v) ≡ true
-    head-known b e h = ranges-same ∙ sym e ∙ not-false b h
-
-    pub head-512 : (b : Bool) → b ≡ tablesPass false (countAt counts) blk starts counts v → not b ≡ false → natural (getD v (getD starts 0 0 + 3) 0) ≤ 512
-    unfolding inRange
-    head-512 b e h =
-        let r = head-range starts counts v fit 3 (omega arith) (head-known b e h) in
-        let k : getD v (getD starts 0 0 + 3) 0 ≤ 2147484160 = leb-true (getD v (getD starts 0 0 + 3) 0) 2147484160 (and-right (leb 2147483649 (getD v (getD starts 0 0 + 3) 0)) (leb (getD v (getD starts 0 0 + 3) 0) 2147484160) r) in
-        omega arith
-
-    pub head-1024 : (b : Bool) → b ≡ tablesPass false (countAt counts) blk starts counts v → not b ≡ false → natural (getD v (getD starts 0 0 + 4) 0) ≤ 1024
-    unfolding inRange
-    head-1024 b e h =
-        let r = head-range starts counts v fit 4 (omega arith) (head-known b e h) in
-        let k : getD v (getD starts 0 0 + 4) 0 ≤ 2147484672 = leb-true (getD v (getD starts 0 0 + 4) 0) 2147484672 (and-right (leb 2147483649 (getD v (getD starts 0 0 + 4) 0)) (leb (getD v (getD starts 0 0 + 4) 0) 2147484672) r) in
-        omega arith
-
-    pub head-8 : (b : Bool) → b ≡ tablesPass false (countAt counts) blk starts counts v → not b ≡ false → natural (getD v (getD starts 0 0 + 1) 0) ≤ 8
-    unfolding inRange
-    head-8 b e h =
-        let r = head-range starts counts v fit 1 (omega arith) (head-known b e h) in
-        let k : getD v (getD starts 0 0 + 1) 0 ≤ 2147483656 = leb-true (getD v (getD starts 0 0 + 1) 0) 2147483656 (and-right (leb 2147483649 (getD v (getD starts 0 0 + 1) 0)) (leb (getD v (getD starts 0 0 + 1) 0) 2147483656) r) in
-        omega arith
 
     pub number-4 : (b4 : Bool) → b4 ≡ tablesPass false (countAt counts) blk starts counts v → not b4 ≡ true
-        → 4 ≡ answerOfTables (placed starts counts v) samples output
+        → 4 ≡ unmeasured starts counts v samples
     unfolding asked
     number-4 b4 e4 h4 = sym (number-rest ∙ rw (← e4, not-true b4 h4))
 
     pub number-5 : (b4 b5 : Bool) → b4 ≡ tablesPass false (countAt counts) blk starts counts v → not b4 ≡ false → b5 ≡ tablesPass true (countAt counts) blk starts counts v → not b5 ≡ true
-        → 5 ≡ answerOfTables (placed starts counts v) samples output
+        → 5 ≡ unmeasured starts counts v samples
     unfolding asked
     number-5 b4 b5 e4 h4 e5 h5 = sym (number-rest ∙ rw (← e4, not-false b4 h4, ← e5, not-true b5 h5))
 
     pub number-6 : (b4 b5 b6 : Bool) → b4 ≡ tablesPass false (countAt counts) blk starts counts v → not b4 ≡ false → b5 ≡ tablesPass true (countAt counts) blk starts counts v → not b5 ≡ false → b6 ≡ depthsFit (rowsIn v (getD starts 2 0) 2 (getD counts 2 0)) → not b6 ≡ true
-        → 6 ≡ answerOfTables (placed starts counts v) samples output
+        → 6 ≡ unmeasured starts counts v samples
     unfolding asked
     number-6 b4 b5 b6 e4 h4 e5 h5 e6 h6 = sym (number-rest ∙ rw (← e4, not-false b4 h4, ← e5, not-false b5 h5, ← e6, not-true b6 h6))
 
     pub number-7 : (b4 b5 b6 b7 : Bool) → b4 ≡ tablesPass false (countAt counts) blk starts counts v → not b4 ≡ false → b5 ≡ tablesPass true (countAt counts) blk starts counts v → not b5 ≡ false → b6 ≡ depthsFit (rowsIn v (getD starts 2 0) 2 (getD counts 2 0)) → not b6 ≡ false → b7 ≡ routesFit (rowsIn v (getD starts 4 0) 3 (getD counts 4 0)) → not b7 ≡ true
-        → 7 ≡ answerOfTables (placed starts counts v) samples output
+        → 7 ≡ unmeasured starts counts v samples
     unfolding asked
     number-7 b4 b5 b6 b7 e4 h4 e5 h5 e6 h6 e7 h7 = sym (number-rest ∙ rw (← e4, not-false b4 h4, ← e5, not-false b5 h5, ← e6, not-false b6 h6, ← e7, not-true b7 h7))
 
     pub number-8 : (b4 b5 b6 b7 b8 : Bool) → b4 ≡ tablesPass false (countAt counts) blk starts counts v → not b4 ≡ false → b5 ≡ tablesPass true (countAt counts) blk starts counts v → not b5 ≡ false → b6 ≡ depthsFit (rowsIn v (getD starts 2 0) 2 (getD counts 2 0)) → not b6 ≡ false → b7 ≡ routesFit (rowsIn v (getD starts 4 0) 3 (getD counts 4 0)) → not b7 ≡ false → b8 ≡ soundsFit (rowsIn v (getD starts 5 0) 3 (getD counts 5 0)) samples → not b8 ≡ true
-        → 8 ≡ answerOfTables (placed starts counts v) samples output
+        → 8 ≡ unmeasured starts counts v samples
     unfolding asked
     number-8 b4 b5 b6 b7 b8 e4 h4 e5 h5 e6 h6 e7 h7 e8 h8 = sym (number-rest ∙ rw (← e4, not-false b4 h4, ← e5, not-false b5 h5, ← e6, not-false b6 h6, ← e7, not-false b7 h7, ← e8, not-true b8 h8))
 
     pub number-9 : (b4 b5 b6 b7 b8 b9 : Bool) → b4 ≡ tablesPass false (countAt counts) blk starts counts v → not b4 ≡ false → b5 ≡ tablesPass true (countAt counts) blk starts counts v → not b5 ≡ false → b6 ≡ depthsFit (rowsIn v (getD starts 2 0) 2 (getD counts 2 0)) → not b6 ≡ false → b7 ≡ routesFit (rowsIn v (getD starts 4 0) 3 (getD counts 4 0)) → not b7 ≡ false → b8 ≡ soundsFit (rowsIn v (getD starts 5 0) 3 (getD counts 5 0)) samples → not b8 ≡ false → b9 ≡ samplesOk samples → not b9 ≡ true
-        → 9 ≡ answerOfTables (placed starts counts v) samples output
+        → 9 ≡ unmeasured starts counts v samples
     unfolding asked
     number-9 b4 b5 b6 b7 b8 b9 e4 h4 e5 h5 e6 h6 e7 h7 e8 h8 e9 h9 = sym (number-rest ∙ rw (← e4, not-false b4 h4, ← e5, not-false b5 h5, ← e6, not-false b6 h6, ← e7, not-false b7 h7, ← e8, not-false b8 h8, ← e9, not-true b9 h9))
 
-    pub number-10 : (b4 b5 b6 b7 b8 b9 b10 : Bool) → b4 ≡ tablesPass false (countAt counts) blk starts counts v → not b4 ≡ false → b5 ≡ tablesPass true (countAt counts) blk starts counts v → not b5 ≡ false → b6 ≡ depthsFit (rowsIn v (getD starts 2 0) 2 (getD counts 2 0)) → not b6 ≡ false → b7 ≡ routesFit (rowsIn v (getD starts 4 0) 3 (getD counts 4 0)) → not b7 ≡ false → b8 ≡ soundsFit (rowsIn v (getD starts 5 0) 3 (getD counts 5 0)) samples → not b8 ≡ false → b9 ≡ samplesOk samples → not b9 ≡ false → b10 ≡ eqb output (natural (getD v (getD starts 0 0 + 3) 0) * natural (getD v (getD starts 0 0 + 4) 0) * natural (getD v (getD starts 0 0 + 1) 0)) → not b10 ≡ true
-        → 10 ≡ answerOfTables (placed starts counts v) samples output
+    pub number-0 : (b4 b5 b6 b7 b8 b9 : Bool) → b4 ≡ tablesPass false (countAt counts) blk starts counts v → not b4 ≡ false → b5 ≡ tablesPass true (countAt counts) blk starts counts v → not b5 ≡ false → b6 ≡ depthsFit (rowsIn v (getD starts 2 0) 2 (getD counts 2 0)) → not b6 ≡ false → b7 ≡ routesFit (rowsIn v (getD starts 4 0) 3 (getD counts 4 0)) → not b7 ≡ false → b8 ≡ soundsFit (rowsIn v (getD starts 5 0) 3 (getD counts 5 0)) samples → not b8 ≡ false → b9 ≡ samplesOk samples → not b9 ≡ false
+        → 0 ≡ unmeasured starts counts v samples
     unfolding asked
-    number-10 b4 b5 b6 b7 b8 b9 b10 e4 h4 e5 h5 e6 h6 e7 h7 e8 h8 e9 h9 e10 h10 = sym (number-rest ∙ rw (← e4, not-false b4 h4, ← e5, not-false b5 h5, ← e6, not-false b6 h6, ← e7, not-false b7 h7, ← e8, not-false b8 h8, ← e9, not-false b9 h9, ← e10, not-true b10 h10))
+    number-0 b4 b5 b6 b7 b8 b9 e4 h4 e5 h5 e6 h6 e7 h7 e8 h8 e9 h9 = sym (number-rest ∙ rw (← e4, not-false b4 h4, ← e5, not-false b5 h5, ← e6, not-false b6 h6, ← e7, not-false b7 h7, ← e8, not-false b8 h8, ← e9, not-false b9 h9))
 
-    pub number-0 : (b4 b5 b6 b7 b8 b9 b10 : Bool) → b4 ≡ tablesPass false (countAt counts) blk starts counts v → not b4 ≡ false → b5 ≡ tablesPass true (countAt counts) blk starts counts v → not b5 ≡ false → b6 ≡ depthsFit (rowsIn v (getD starts 2 0) 2 (getD counts 2 0)) → not b6 ≡ false → b7 ≡ routesFit (rowsIn v (getD starts 4 0) 3 (getD counts 4 0)) → not b7 ≡ false → b8 ≡ soundsFit (rowsIn v (getD starts 5 0) 3 (getD counts 5 0)) samples → not b8 ≡ false → b9 ≡ samplesOk samples → not b9 ≡ false → b10 ≡ eqb output (natural (getD v (getD starts 0 0 + 3) 0) * natural (getD v (getD starts 0 0 + 4) 0) * natural (getD v (getD starts 0 0 + 1) 0)) → not b10 ≡ false
-        → 0 ≡ answerOfTables (placed starts counts v) samples output
-    unfolding asked
-    number-0 b4 b5 b6 b7 b8 b9 b10 e4 h4 e5 h5 e6 h6 e7 h7 e8 h8 e9 h9 e10 h10 = sym (number-rest ∙ rw (← e4, not-false b4 h4, ← e5, not-false b5 h5, ← e6, not-false b6 h6, ← e7, not-false b7 h7, ← e8, not-false b8 h8, ← e9, not-false b9 h9, ← e10, not-false b10 h10))
+-- ---- 1 to 9
 
--- ---- the whole answer
-
-asked-zero : (b : Bool) (x : ℕ) → asked b 3 x ≡ 0 → b ≡ true
+-- a question that lets the answer be 0
+pub asked-zero : (b : Bool) (n x : ℕ) → asked b (suc n) x ≡ 0 → (b ≡ true) × (x ≡ 0)
 unfolding asked
-asked-zero true x e = refl
-asked-zero false x e = absurd (omega arith)
+asked-zero true n x e = (refl, e)
+asked-zero false n x e = absurd (omega arith)
 
-module _ (file : List ℕ) (samples : List Float) (output : ℕ) where
-  pub answered-1 : (b : Bool) (r : Answer) → b ≡ sizeOk file → not b ≡ true → r ≡ refusal 1 → r ≡ answered file samples output
+module _ (file : List ℕ) (samples : List Float) where
+  pub answered-1 : (b : Bool) (r : Answer) → b ≡ sizeOk file → not b ≡ true → r ≡ refusal 1 → r ≡ answered file samples (outputLength (tablesOf file))
   unfolding answered answer asked
   answered-1 b r e h p = rw (← e, not-true b h) p
 
@@ -178,26 +151,44 @@ module _ (file : List ℕ) (samples : List Float) (output : ℕ) where
     small-file = size-small file (sym isa ∙ not-false a yes-a)
 
     module _ (l : Layout) (after : List ℕ) (read : LayoutRead file l after) where
-      pub answered-2 : (r : Answer) → not (l .ok) ≡ true → r ≡ refusal 2 → r ≡ answered file samples output
+      pub answered-2 : (r : Answer) → not (l .ok) ≡ true → r ≡ refusal 2 → r ≡ answered file samples (outputLength (tablesOf file))
       unfolding answered answer asked spelledOk
       answered-2 r h p = rw (← isa, not-false a yes-a, ← read .answer, not-true (l .ok) h) p
 
-      module _ (yes-l : not (l .ok) ≡ false) (n : ℕ) (isn : n ≡ answerOfTables (placed (l .starts) (l .counts) after) samples output) where
+      module _ (yes-l : not (l .ok) ≡ false) (n : ℕ) (isn : n ≡ unmeasured (l .starts) (l .counts) after samples) where
         good : l .ok ≡ true
         good = not-false (l .ok) yes-l
 
-        answer-is : answer file samples output ≡ n
+        answer-is : answer file samples (outputLength (tablesOf file)) ≡ n
         unfolding answer asked spelledOk
-        answer-is = rw (← isa, not-false a yes-a, ← read .answer, good) (sym (isn ∙ ap (λ (ts : Tables). answerOfTables ts samples output) (read-placed file l after read good)))
+        answer-is = rw (← isa, not-false a yes-a, ← read .answer, good) (sym (isn ∙ ap (λ (ts : Tables). answerOfTables ts samples (outputLength ts)) (read-placed file l after read good)))
 
-        pub answered-n : (r : Answer) → (n ≡ 0 → ⊥) → r ≡ refusal n → r ≡ answered file samples output
+        pub answered-n : (r : Answer) → (n ≡ 0 → ⊥) → r ≡ refusal n → r ≡ answered file samples (outputLength (tablesOf file))
         unfolding answered
         answered-n r h p = rw (answer-is, ne-eqb n 0 h) p
 
         pub counts-known : n ≡ 0 → countsFit (l .counts) ≡ true
         unfolding answerOfTables
-        counts-known h = sym (counts-are (l .starts) (l .counts) after) ∙ asked-zero (linesOk (placed (l .starts) (l .counts) after)) _ (sym isn ∙ h)
+        counts-known h = sym (counts-are (l .starts) (l .counts) after) ∙ asked-zero (linesOk (placed (l .starts) (l .counts) after)) 2 _ (sym isn ∙ h) .0
 
-        pub answered-0 : n ≡ 0 → (s : Scene) → s ≡ sceneOf (placed (l .starts) (l .counts) after) → _≡_ {A = Answer} (record { number = 0; scene = s }) (answered file samples output)
+        pub answered-0 : n ≡ 0 → (s : Scene) → s ≡ sceneOf (placed (l .starts) (l .counts) after) → _≡_ {A = Answer} (record { number = 0; scene = s }) (answered file samples (outputLength (tablesOf file)))
         unfolding answered
         answered-0 h s e = rw (answer-is, eq-eqb n 0 h, e, read-placed file l after read good)
+
+-- ---- an answer's parts
+
+module _ (file : List ℕ) (samples : List Float) (n : ℕ) {r : Answer} (e : r ≡ answered file samples n) where
+  by-number : (m : ℕ) (b : Bool) → eqb m 0 ≡ b → cond b (record { number = 0; scene = sceneOf (tablesOf file) }) (refusal m) .number ≡ m
+  unfolding refusal
+  by-number m true t = sym (eqb-true m 0 t)
+  by-number m false t = refl
+
+  pub answered-number : r .number ≡ answer file samples n
+  unfolding answered
+  answered-number = ap (λ (x : Answer). x .number) e ∙ by-number (answer file samples n) (eqb (answer file samples n) 0) refl
+
+  pub answered-scene : r .number ≡ 0 → r .scene ≡ sceneOf (tablesOf file)
+  unfolding answered
+  answered-scene z =
+      ap (λ (x : Answer). x .scene) e
+      ∙ ap (λ (m : ℕ). cond (eqb m 0) (record { number = 0; scene = sceneOf (tablesOf file) }) (refusal m) .scene) (sym answered-number ∙ z)

@@ -204,16 +204,6 @@ module _ (starts counts v : List ℕ) (fit : countsFit counts ≡ true) where
       ∙ cell-at v (getD starts 0 0) 6 (getD counts 0 0) 0 j k h
       ∙ rw (zero-mul 6, add-zero (getD starts 0 0))
 
-  -- what questions 3 and 4 say of a head field
-  pub head-range : (j : ℕ) → j < 6 → rangesOk (placed starts counts v) ≡ true → inRange (getD (tableAt 0 .fields) j noField) (getD v (getD starts 0 0 + j) 0) ≡ true
-  unfolding rangesOk everyLine width
-  head-range j h e =
-      let k : 0 < linesAt (placed starts counts v) 0 = omega (arith, lines-placed starts counts v 0 (omega arith), count-fits 0 (omega arith) .0) in
-      let a = every-at (length tables) _ 0 (omega arith) e in
-      let b = every-at (linesAt (placed starts counts v) 0) _ 0 k a in
-      let d = and-left _ _ b in
-      rw (← head-cell j h) (every-at 6 _ j h d)
-
   pub lies : Low starts counts → (t : ℕ) → t < length tables
       → (getD starts t 0 + getD counts t 0 * width (tableAt t) ≤ 100000) × (getD counts t 0 ≤ tableAt t .most)
   lies low t h = (low t h, count-fits t h .1)

@@ -9,7 +9,8 @@ use Rattle.accepted.specs.SceneOk.{SceneOk, SamplesOk}
 use Rattle.accepted.specs.Accepted.{accepted-ok, accepted-samples, accepted-length}
 use Rattle.renderer.specs.Renderer.{rendered}
 use Rattle.room_desk.specs.Render.{AreF32}
-use Rattle.room_desk.specs.RenderLaws.{answered-number, answered-scene, output-refused}
+use Rattle.scene.specs.Laws.Answer.{answered-number, answered-scene}
+use Rattle.room_desk.specs.RenderLaws.{output-refused}
 use Rattle.room_desk.specs.Silence.{output-accepted, silence}
 use borrow.Author.Needs.{needs}
 use Rattle.room_desk.proofs.show.render.Statement.{statement}

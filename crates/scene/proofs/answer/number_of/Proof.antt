@@ -1,6 +1,5 @@
 -- `number_of` meets its contract: the first question that says no decides. Assumes nothing.
-use mathlib.Core.List.{[]}
-use Rattle.scene.specs.Laws.Answer.{number-3, number-4, number-5, number-6, number-7, number-8, number-9, number-10, number-0, low-tracks, low-routes, low-sounds, head-512, head-1024, head-8}
+use Rattle.scene.specs.Laws.Answer.{number-3, number-4, number-5, number-6, number-7, number-8, number-9, number-0, low-tracks, low-routes, low-sounds}
 use borrow.Author.Needs.{needs}
 use Rattle.scene.proofs.answer.number_of.Statement.{statement}
 use Rattle.scene.proofs.answer.number_of.Tie as tie
@@ -71,17 +70,8 @@ samples-ok-requires c κs = search needs
 returns-7 : tie.Need-returns-7
 returns-7 c = search (number-9, needs)
 
-element-copy-out-length-ok : tie.Need-element-copy-out-length-ok
-element-copy-out-length-ok c = search needs
-
-length-ok-requires : tie.Need-length-ok-requires
-length-ok-requires c κs = (head-512 _ _ _ [] 0 _ (c .before .before .before .before .before .before .before .before .before .before .before .before .before .before .before .before .before .before .before .before .before .before .counts-fit .ensures) (c .before .before .before .before .before .before .before .before .before .before .before .before .before .before .before .before .before .before .before .before .before .if1 .left) _ (c .before .before .before .before .before .before .before .before .before .before .before .before .before .before .before .before .before .before .before .at .ensures) _ (c .before .before .before .before .before .before .before .before .before .before .before .before .before .before .before .before .before .before .tables-pass .ensures) (c .before .before .before .before .before .before .before .before .before .before .before .before .before .before .before .before .before .if2 .left), (head-1024 _ _ _ [] 0 _ (c .before .before .before .before .before .before .before .before .before .before .before .before .before .before .before .before .before .before .before .before .before .before .counts-fit .ensures) (c .before .before .before .before .before .before .before .before .before .before .before .before .before .before .before .before .before .before .before .before .before .if1 .left) _ (c .before .before .before .before .before .before .before .before .before .before .before .before .before .before .before .before .before .before .before .at .ensures) _ (c .before .before .before .before .before .before .before .before .before .before .before .before .before .before .before .before .before .before .tables-pass .ensures) (c .before .before .before .before .before .before .before .before .before .before .before .before .before .before .before .before .before .if2 .left), head-8 _ _ _ [] 0 _ (c .before .before .before .before .before .before .before .before .before .before .before .before .before .before .before .before .before .before .before .before .before .before .counts-fit .ensures) (c .before .before .before .before .before .before .before .before .before .before .before .before .before .before .before .before .before .before .before .before .before .if1 .left) _ (c .before .before .before .before .before .before .before .before .before .before .before .before .before .before .before .before .before .before .before .at .ensures) _ (c .before .before .before .before .before .before .before .before .before .before .before .before .before .before .before .before .before .before .tables-pass .ensures) (c .before .before .before .before .before .before .before .before .before .before .before .before .before .before .before .before .before .if2 .left)))
-
 returns-8 : tie.Need-returns-8
-returns-8 c = search (number-10, needs)
-
-returns-9 : tie.Need-returns-9
-returns-9 c = search (number-0, needs)
+returns-8 c = search (number-0, needs)
 
 pub number-of-spec : {M : Type 1} → statement M
 number-of-spec =
@@ -109,7 +99,4 @@ number-of-spec =
     returns-6
     samples-ok-requires
     returns-7
-    element-copy-out-length-ok
-    length-ok-requires
-    returns-8
-    returns-9)
+    returns-8)

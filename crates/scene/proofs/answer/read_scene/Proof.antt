@@ -1,69 +1,30 @@
--- `read_scene` meets its contract: the tables in their places are the file's. Assumes nothing.
-use mathlib.Core.List.{[]}
-use borrow.Author.Tests.{not-false}
-use Rattle.scene.specs.Laws.Answer.{answered-1, answered-2, answered-n, answered-0, counts-known, read-room, small-file}
-use Rattle.scene.specs.Laws.Read.{read-low}
+-- `read_scene` meets its contract: question 10 is asked after the nine before it, of the head. Assumes nothing.
+use Rattle.scene.specs.Laws.Length.{refused-before, head-512, head-1024, head-8, accepted-10, refused-10}
 use borrow.Author.Needs.{needs}
 use Rattle.scene.proofs.answer.read_scene.Statement.{statement}
 use Rattle.scene.proofs.answer.read_scene.Tie as tie
 
-size-ok-requires : tie.Need-size-ok-requires
-size-ok-requires c κs = search needs
+read-unmeasured-requires : tie.Need-read-unmeasured-requires
+read-unmeasured-requires c κs = search needs
+
+returns : tie.Need-returns
+returns c = refused-before _ _ _ (c .before .before .read-unmeasured .ensures) _ (c .if1 .taken)
+
+output-length-requires : tie.Need-output-length-requires
+output-length-requires c κs =
+    let read = c .before .before .before .read-unmeasured .ensures in
+    let passed = c .before .if1 .left in
+    (head-512 _ _ _ read passed, (head-1024 _ _ _ read passed, head-8 _ _ _ read passed))
+
+returns-2 : tie.Need-returns-2
+returns-2 c = accepted-10 _ _ _ (c .before .before .before .before .before .read-unmeasured .ensures) (c .before .before .before .if1 .left) _ _ (c .before .output-length .ensures) (c .if2 .taken)
 
 refused-requires : tie.Need-refused-requires
 refused-requires c κs = search needs
 
-returns : tie.Need-returns
-returns c = search (answered-1, needs)
-
-slice-aggregate-read-tables : tie.Need-slice-aggregate-read-tables
-slice-aggregate-read-tables c = search needs
-
-read-tables-requires : tie.Need-read-tables-requires
-read-tables-requires c κs = read-room _ [] 0 _ (c .before .before .size-ok .ensures) (c .before .if1 .left)
-
-refused-requires-2 : tie.Need-refused-requires-2
-refused-requires-2 c κs = search needs
-
-returns-2 : tie.Need-returns-2
-returns-2 c = search (answered-2, needs)
-
-slice-aggregate-number-of : tie.Need-slice-aggregate-number-of
-slice-aggregate-number-of c = search needs
-
-number-of-requires : tie.Need-number-of-requires
-number-of-requires c κs = read-low _ _ _ (c .before .before .before .before .before .before .before .before .read-tables .ensures) (not-false _ (c .before .before .before .before .before .if2 .left)) (small-file _ [] 0 _ (c .before .before .before .before .before .before .before .before .before .before .before .size-ok .ensures) (c .before .before .before .before .before .before .before .before .before .before .if1 .left))
-
-refused-requires-3 : tie.Need-refused-requires-3
-refused-requires-3 c κs = search needs
-
 returns-3 : tie.Need-returns-3
-returns-3 c = search (answered-n, needs)
-
-slice-aggregate-scene-of : tie.Need-slice-aggregate-scene-of
-slice-aggregate-scene-of c = search needs
-
-scene-of-requires : tie.Need-scene-of-requires
-scene-of-requires c κs = (read-low _ _ _ (c .before .before .before .before .before .before .before .before .before .before .before .before .before .read-tables .ensures) (not-false _ (c .before .before .before .before .before .before .before .before .before .before .if2 .left)) (small-file _ [] 0 _ (c .before .before .before .before .before .before .before .before .before .before .before .before .before .before .before .before .size-ok .ensures) (c .before .before .before .before .before .before .before .before .before .before .before .before .before .before .before .if1 .left)), counts-known _ _ _ _ (c .before .before .before .before .before .before .before .before .before .before .before .before .before .before .before .before .size-ok .ensures) (c .before .before .before .before .before .before .before .before .before .before .before .before .before .before .before .if1 .left) _ _ (c .before .before .before .before .before .before .before .before .before .before .before .before .before .read-tables .ensures) (c .before .before .before .before .before .before .before .before .before .before .if2 .left) _ (c .before .before .before .before .number-of .ensures) (c .before .before .before .if3 .left))
-
-returns-4 : tie.Need-returns-4
-returns-4 c = answered-0 _ _ _ _ (c .before .before .before .before .before .before .before .before .before .before .before .before .before .before .before .before .before .size-ok .ensures) (c .before .before .before .before .before .before .before .before .before .before .before .before .before .before .before .before .if1 .left) _ _ (c .before .before .before .before .before .before .before .before .before .before .before .before .before .before .read-tables .ensures) (c .before .before .before .before .before .before .before .before .before .before .before .if2 .left) _ (c .before .before .before .before .before .number-of .ensures) (c .before .before .before .before .if3 .left) _ (c .scene-of .ensures)
+returns-3 c = refused-10 _ _ _ (c .before .before .before .before .before .before .read-unmeasured .ensures) (c .before .before .before .before .if1 .left) _ _ (c .before .before .output-length .ensures) (c .before .if2 .left) _ (c .refused .ensures)
 
 pub read-scene-spec : {M : Type 1} → statement M
 read-scene-spec =
-    tie.close
-    (tie.spec
-    size-ok-requires
-    refused-requires
-    returns
-    slice-aggregate-read-tables
-    read-tables-requires
-    refused-requires-2
-    returns-2
-    slice-aggregate-number-of
-    number-of-requires
-    refused-requires-3
-    returns-3
-    slice-aggregate-scene-of
-    scene-of-requires
-    returns-4)
+    tie.close (tie.spec read-unmeasured-requires returns output-length-requires returns-2 refused-requires returns-3)
