@@ -26,6 +26,10 @@ falls i count h = omega arith
 pub line-within : {line n : ℕ} → 1 ≤ line → line ≤ n → line - 1 < n
 line-within h k = omega arith
 
+-- the place of a line number, where 0 has the first place
+pub place-within : {p line n : ℕ} → p ≡ line - 1 → line ≤ n → 0 < n → p < n
+place-within e h k = omega arith
+
 -- ---- turns
 
 module _ {A : Type 0} (f : ℕ → A → A) (l : List A) (d : A) {now : List A} where

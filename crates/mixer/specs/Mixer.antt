@@ -80,9 +80,12 @@ parameterOf ps i = getD ps i absentParameter
 
 -- ---- one chunk, before its frames are mixed. Clocks move first.
 
--- Whether a line number, counted from 1, is the mixer or a live track.
+-- Whether a line number, counted from 1, is the mixer or a live track, given the track at its place.
+abbrev pub liveAt : Track → ℕ → Bool
+liveAt track line = cond (eqb line 0) true (track .live)
+
 unfoldable pub liveAbove : List Track → ℕ → Bool
-liveAbove tracks line = cond (eqb line 0) true (stateOf tracks (line - 1) .live)
+liveAbove tracks line = liveAt (stateOf tracks (line - 1)) line
 
 -- A track is reached where what it stands under is live. That stands on an earlier line, so it has moved already.
 unfoldable pub trackStep : List TrackLine → Float → Clocks → ℕ → List Track → List Track

@@ -1,5 +1,5 @@
 -- Sounds, ours: how many frames each has played.
-use mathlib.Core.Bool.{cond}
+use mathlib.Core.Bool.{Bool, cond}
 use mathlib.Core.List.{List}
 use Prim.Native.Nat.{ℕ, _+_, _-_}
 use lib.Dec.{ltb}
@@ -17,8 +17,12 @@ unfoldable pub playedMore : SoundLine → ℕ → ℕ → ℕ
 playedMore line n done = cond (ltb (line .count - done) n) (line .count) (done + n)
 
 -- the sounds of the main track and of live tracks have played n frames more
+-- given whether its track is live
+abbrev pub playedWhere : Bool → SoundLine → ℕ → ℕ → ℕ
+playedWhere live line n done = cond live (playedMore line n done) done
+
 unfoldable pub playedAfter : List Track → SoundLine → ℕ → ℕ → ℕ
-playedAfter tracks line n done = cond (liveAbove tracks (line .track)) (playedMore line n done) done
+playedAfter tracks line n done = playedWhere (liveAbove tracks (line .track)) line n done
 
 unfoldable pub playedOn : List SoundLine → ℕ → List Track → ℕ → List ℕ → List ℕ
 playedOn lines count tracks n played = changed (λ k done. playedAfter tracks (getD lines k absentSound) n done) count played

@@ -1,12 +1,12 @@
 // kira's backend/resources/mixer.rs: the state that moves, when it is made, and how a chunk moves it.
 ghost use mathlib.Core.Path.{_≡_};
-ghost use Prim.Native.Nat.{ℕ, _≤_, _<_};
+ghost use Prim.Native.Nat.{ℕ, _-_, _≤_, _<_};
 ghost use lib.ListN.{getD};
 ghost use Rattle.number.specs.Duration.{InAnHour};
 ghost use Rattle.clock.specs.WhenToStart.{CanMoveAll};
 ghost use Rattle.accepted.specs.Lines.{absentTrack, absentRoute};
 ghost use Rattle.accepted.specs.SceneOk.{SceneOk, Names};
-ghost use Rattle.mixer.specs.Mixer.{clocksNew, tracksNew, sendsNew, routesNew, mixerNew, liveAbove, tracksUpdate, updatedWhere, routesUpdate, sendsUpdate, mixerUpdate};
+ghost use Rattle.mixer.specs.Mixer.{clocksNew, tracksNew, sendsNew, routesNew, mixerNew, liveAt, tracksUpdate, updatedWhere, routesUpdate, sendsUpdate, mixerUpdate};
 use crate::sub::Track;
 use clock::Clock;
 use clock::ClockSpeed;
@@ -96,15 +96,24 @@ fn new_routes(scene: Scene) -> [Parameter; 64]
     routes
 }
 
-// Whether a line number, counted from 1, is the mixer or a live track.
-pub fn live_above(tracks: [Track; 32], line: usize) -> bool
-    requires { ⌜ line ≤ 32 ⌝ }
-    ensures { λ r. ⌜ r ≡ liveAbove tracks line ⌝ }
+// Where a line that is counted from 1 stands. Line 0 has no place, and the first stands in.
+pub fn place_of(line: usize) -> usize
+    ensures { λ r. ⌜ r ≡ line - 1 ⌝ }
+{
+    if line == 0 {
+        return 0;
+    }
+    line - 1
+}
+
+// Whether a line number, counted from 1, is the mixer or a live track. The track is the one at its
+// place: all of them would be copied for the call.
+pub fn live_above(track: Track, line: usize) -> bool
+    ensures { λ r. ⌜ r ≡ liveAt track line ⌝ }
 {
     if line == 0 {
         return true;
     }
-    let track = tracks[line - 1];
     track.live
 }
 
@@ -126,7 +135,9 @@ fn update_tracks(
     let mut t = 0;
     while t < count {
         let line = lines[t];
-        let reached = live_above(moved, line.parent);
+        let parent = line.parent;
+        let above = moved[place_of(parent)];
+        let reached = live_above(above, parent);
         let track = moved[t];
         moved[t] = track.update(reached, dt, clocks);
         t += 1;

@@ -4,9 +4,11 @@ ghost use Prim.Native.Nat.{ℕ, _≤_, _<_};
 ghost use lib.ListN.{getD};
 ghost use Rattle.accepted.specs.Lines.{absentSound};
 ghost use Rattle.accepted.specs.SceneOk.{SceneOk};
-ghost use Rattle.mixer.specs.Sounds.{playedMore, playedAfter, playedOn, soundsPlayed};
+ghost use Rattle.mixer.specs.Mixer.{liveAt};
+ghost use Rattle.mixer.specs.Sounds.{playedMore, playedWhere, playedOn, soundsPlayed};
 use crate::mixer::Mixer;
 use crate::mixer::live_above;
+use crate::mixer::place_of;
 use crate::sub::Track;
 use scene::Scene;
 use scene::SoundLine;
@@ -22,12 +24,12 @@ fn played_more(line: SoundLine, frames: usize, done: usize) -> usize
     done + frames
 }
 
-fn played_after(tracks: [Track; 32], line: SoundLine, frames: usize, done: usize) -> usize
+// The track is the one at the place of the sound's track.
+fn played_after(track: Track, line: SoundLine, frames: usize, done: usize) -> usize
     requires { ⌜ done ≤ line .count ⌝ }
-    requires { ⌜ line .track ≤ 32 ⌝ }
-    ensures { λ r. ⌜ r ≡ playedAfter tracks line frames done ⌝ }
+    ensures { λ r. ⌜ r ≡ playedWhere (liveAt track (line .track)) line frames done ⌝ }
 {
-    if live_above(tracks, line.track) {
+    if live_above(track, line.track) {
         return played_more(line, frames, done);
     }
     done
@@ -50,7 +52,8 @@ fn played_on(
     while k < count {
         let line = lines[k];
         let done = played[k];
-        next[k] = played_after(tracks, line, frames, done);
+        let track = tracks[place_of(line.track)];
+        next[k] = played_after(track, line, frames, done);
         k += 1;
     }
     next

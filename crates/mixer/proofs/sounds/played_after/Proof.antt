@@ -1,22 +1,24 @@
 -- `sounds::played_after` meets its contract: the test is the definition's. Assumes nothing.
 use mathlib.Core.Path.{sym, _∙_}
+use borrow.Author.Needs.{needs}
 use Rattle.laws.specs.Choice.{cond-true, cond-false}
-use Rattle.mixer.specs.Sounds.{playedAfter}
 use Rattle.mixer.proofs.sounds.played_after.Statement.{statement}
 use Rattle.mixer.proofs.sounds.played_after.Tie as tie
+use Rattle.mixer.proofs.sounds.played_after.Reads as reads
+use Rattle.mixer.proofs.sounds.played_after.Lts as lts
+use Rattle.mixer.proofs.mixer.live_above.Reads as live-above-reads
+use Rattle.mixer.proofs.sounds.played_more.Reads as played-more-reads
 
 live-above-requires : tie.Need-live-above-requires
-live-above-requires c κs = c .pre .1
+live-above-requires c κs = search needs
 
 played-more-requires : tie.Need-played-more-requires
-played-more-requires c κs = c .before .before .pre .0
+played-more-requires c κs = search needs
 
 returns : tie.Need-returns
-unfolding playedAfter
 returns c = c .played-more .ensures ∙ sym (cond-true _ _ _ (sym (c .before .before .live-above .ensures) ∙ c .before .if1 .taken))
 
 returns-2 : tie.Need-returns-2
-unfolding playedAfter
 returns-2 c = sym (cond-false _ _ _ (sym (c .before .live-above .ensures) ∙ c .if1 .left))
 
 pub played-after-spec : {M : Type 1} → statement M
