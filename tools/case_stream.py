@@ -1,6 +1,15 @@
 """Streams of cases and answers, as `oracle batch` reads and writes them (oracle/README.md, "Cases"). For the scripts beside it."""
+import pathlib
 import struct
 import subprocess
+import sys
+
+CASES = pathlib.Path(__file__).resolve().parent.parent / "oracle/scripts/cases.py"
+
+
+def made(kind, seed, count):
+    """Cases of a kind, from a seed."""
+    return split(subprocess.run([sys.executable, CASES, kind, str(seed), str(count)], stdout=subprocess.PIPE, check=True).stdout)
 
 
 def split(stream):

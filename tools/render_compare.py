@@ -11,18 +11,12 @@ target/differs.
 import argparse
 import pathlib
 import struct
-import subprocess
 import sys
 
-from case_stream import answers, as_library, joined, split
+from case_stream import answers, as_library, joined, made
 
 ROOT = pathlib.Path(__file__).resolve().parent.parent
 MOST = 200  # cases a run, so that streams stay small
-
-
-def made(kind, seed, count):
-    command = [sys.executable, ROOT / "oracle/scripts/cases.py", kind, str(seed), str(count)]
-    return split(subprocess.run(command, stdout=subprocess.PIPE, check=True).stdout)
 
 
 def largest():

@@ -124,8 +124,10 @@ impl Show {
 	}
 
 	fn add_sounds(&mut self, samples: &[f32]) {
+		let (frames, _) = samples.as_chunks::<2>();
+		let frames: Arc<[Frame]> = frames.iter().map(|f| Frame::new(f[0], f[1])).collect();
 		for line in &self.scene.sounds {
-			let sound = FramesSound::new(line, samples);
+			let sound = FramesSound::new(line, &frames);
 			let played = match line.track {
 				0 => self.controllers.main_track_handle.play(sound),
 				track => self.tracks[track - 1].play(sound),
@@ -224,18 +226,20 @@ pub(crate) fn at_once(tween: Tween) -> Tween {
 	}
 }
 
-/// Frames in turn, then zeros. Never finished: our scenes remove nothing.
+/// Frames in turn, then zeros. Never finished: our scenes remove nothing. The
+/// sounds of a show share one buffer, as kira's static sounds can.
 struct FramesSound {
-	frames: Vec<Frame>,
+	frames: Arc<[Frame]>,
 	next: usize,
+	end: usize,
 }
 
 impl FramesSound {
-	fn new(line: &SoundLine, samples: &[f32]) -> Self {
-		let played = &samples[2 * line.first..2 * (line.first + line.count)];
+	fn new(line: &SoundLine, frames: &Arc<[Frame]>) -> Self {
 		Self {
-			frames: played.chunks(2).map(|f| Frame::new(f[0], f[1])).collect(),
-			next: 0,
+			frames: frames.clone(),
+			next: line.first,
+			end: line.first + line.count,
 		}
 	}
 }
@@ -251,7 +255,7 @@ impl SoundData for FramesSound {
 
 impl Sound for FramesSound {
 	fn process(&mut self, out: &mut [Frame], _dt: f64, _info: &Info) {
-		let count = out.len().min(self.frames.len() - self.next);
+		let count = out.len().min(self.end - self.next);
 		let (played, silent) = out.split_at_mut(count);
 		played.copy_from_slice(&self.frames[self.next..self.next + count]);
 		silent.fill(Frame::ZERO);

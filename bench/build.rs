@@ -1,0 +1,22 @@
+//! Finds the static library that `rt staticlib room_desk` writes.
+
+use std::{env, path::Path};
+
+fn main() {
+	let folder = Path::new(env!("CARGO_MANIFEST_DIR")).join("../target/staticlib");
+	let library = folder.join("libroom_desk.a");
+	println!("cargo::rerun-if-changed={}", library.display());
+	if !library.exists() {
+		println!(
+			"cargo::error=no target/staticlib/libroom_desk.a: run `rt staticlib room_desk` at the repository's root"
+		);
+		return;
+	}
+	println!("cargo::rustc-link-search=native={}", folder.display());
+	println!("cargo::rustc-link-lib=static=room_desk");
+	assert_eq!(
+		env::var("OPT_LEVEL").as_deref(),
+		Ok("3"),
+		"build with --release"
+	);
+}

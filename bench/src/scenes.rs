@@ -1,0 +1,164 @@
+//! The scenes, by fixed rules. All have 48,000 Hz, two channels, a buffer of
+//! 128 frames and blocks of 512, and every sound plays the whole show.
+
+use std::fmt::Write;
+
+const BLOCK: usize = 512;
+const SENDS: usize = 8;
+/// Tracks of a chain, each below the one before.
+const CHAIN: usize = 4;
+/// Frames between the first frames of two sounds.
+const APART: usize = 997;
+/// Of a five-second fade, 468.75 blocks, the end has come.
+const SECOND_FADE: usize = 470;
+
+pub const GROWTH: [usize; 6] = [1, 2, 4, 8, 16, 32];
+
+/// A scene file, and how many frames of samples it plays from.
+pub struct Scene {
+	pub name: String,
+	pub file: String,
+	pub sample_frames: usize,
+}
+
+/// The scene of a name, so many blocks long.
+pub fn scene(name: &str, blocks: usize) -> Option<Scene> {
+	let tables = match name {
+		"steady" => steady(32),
+		"fading" => Tables {
+			orders: fades(blocks),
+			..steady(32)
+		},
+		"single" => single(),
+		"paused" => Tables {
+			orders: pauses(),
+			..steady(32)
+		},
+		_ => steady(growth_tracks(name)?),
+	};
+	Some(Scene {
+		name: name.into(),
+		file: tables.file(blocks),
+		sample_frames: blocks * BLOCK + (tables.sounds.len() - 1) * APART,
+	})
+}
+
+pub fn growth_name(tracks: usize) -> String {
+	format!("growth-{tracks}")
+}
+
+fn growth_tracks(name: &str) -> Option<usize> {
+	(GROWTH.into_iter()).find(|tracks| growth_name(*tracks) == name)
+}
+
+/// Numbers of a linear congruential generator, in -1/64..1/64: the sums of all
+/// sounds stay below the clamp, and no product comes near a subnormal number.
+pub fn samples(frames: usize) -> Vec<f32> {
+	let mut state = 1u32;
+	let mut next = || {
+		state = state.wrapping_mul(1_664_525).wrapping_add(1_013_904_223);
+		((state >> 8) as f32 / (1 << 23) as f32 - 1.0) / 64.0
+	};
+	(0..2 * frames).map(|_| next()).collect()
+}
+
+struct Tables {
+	volume: i32,
+	tracks: Vec<[usize; 1]>,
+	sends: usize,
+	routes: Vec<[usize; 2]>,
+	/// The track of each.
+	sounds: Vec<usize>,
+	orders: Vec<String>,
+}
+
+impl Tables {
+	fn file(&self, blocks: usize) -> String {
+		let volume = self.volume;
+		let tracks = self
+			.tracks
+			.iter()
+			.map(|[parent]| format!("{parent} {volume}"));
+		let sends = (0..self.sends).map(|_| volume.to_string());
+		let routes = self
+			.routes
+			.iter()
+			.map(|[track, send]| format!("{track} {send} {volume}"));
+		let count = blocks * BLOCK;
+		let sounds = self.sounds.iter().zip(0..);
+		let sounds = sounds.map(|(track, k)| format!("{track} {} {count}", k * APART));
+		let mut text = format!(
+			"rate channels buffer block blocks volume\n48000 2 128 {BLOCK} {blocks} {volume}\n"
+		);
+		table(&mut text, "unit speed ticking", []);
+		table(&mut text, "parent volume", tracks);
+		table(&mut text, "volume", sends);
+		table(&mut text, "track send volume", routes);
+		table(&mut text, "track first count", sounds);
+		let orders = "block kind index volume clock when part millis easing power";
+		table(&mut text, orders, self.orders.iter().cloned());
+		text
+	}
+}
+
+fn table(text: &mut String, names: &str, lines: impl IntoIterator<Item = String>) {
+	write!(text, "\n{names}\n").expect("text grows");
+	for line in lines {
+		writeln!(text, "{line}").expect("text grows");
+	}
+}
+
+/// Chains of four tracks, two sounds and two routes a track.
+fn steady(tracks: usize) -> Tables {
+	let parent = |track: usize| {
+		if (track - 1).is_multiple_of(CHAIN) {
+			0
+		} else {
+			track - 1
+		}
+	};
+	let send = |track: usize, step: usize| (track + step) % SENDS + 1;
+	Tables {
+		volume: -3000,
+		tracks: (1..=tracks).map(|track| [parent(track)]).collect(),
+		sends: SENDS,
+		routes: (1..=tracks)
+			.flat_map(|track| [[track, send(track, 0)], [track, send(track, 3)]])
+			.collect(),
+		sounds: (1..=tracks).flat_map(|track| [track, track]).collect(),
+		orders: vec![],
+	}
+}
+
+/// One track at 0 dB with one sound; the main track at 0 dB too.
+fn single() -> Tables {
+	Tables {
+		volume: 0,
+		tracks: vec![[0]],
+		sends: 0,
+		routes: vec![],
+		sounds: vec![1],
+		orders: vec![],
+	}
+}
+
+/// Every track to -20 dB, and back to -3 dB: five seconds each, InOutPowi(3). In
+/// a show shorter than two fades the second begins in the middle.
+fn fades(blocks: usize) -> Vec<String> {
+	let second = if blocks > 2 * SECOND_FADE {
+		SECOND_FADE
+	} else {
+		blocks / 2
+	};
+	let all = |block: usize, volume: i32| {
+		(1..=32).map(move |track| format!("{block} 1 {track} {volume} 0 0 0 5000 3 3"))
+	};
+	all(0, -20_000).chain(all(second, -3000)).collect()
+}
+
+/// Every second chain, by its top track, at once.
+fn pauses() -> Vec<String> {
+	let tops = (1..=32).step_by(2 * CHAIN);
+	tops.map(|track| format!("0 4 {track} 0 0 0 0 0 0 0"))
+		.collect()
+}

@@ -1,0 +1,103 @@
+//! The three that render: room_desk, kira with the gain table, kira with its
+//! own `powf`. Of each only the rendering is timed.
+
+use std::time::Duration;
+
+use crate::scenes::Scene;
+
+unsafe extern "C" {
+	// A slice is passed as its first element's place and its length.
+	fn room_desk_render(
+		scene: *const u8,
+		scene_length: usize,
+		samples: *const f32,
+		samples_length: usize,
+		output: *mut f32,
+		output_length: usize,
+	) -> u32;
+}
+
+unsafe extern "C" {
+	fn clock_gettime(clock: i32, time: &mut Timespec) -> i32;
+}
+
+#[repr(C)]
+struct Timespec {
+	seconds: i64,
+	nanoseconds: i64,
+}
+
+const CLOCK_THREAD_CPUTIME_ID: i32 = 3;
+
+#[derive(Clone, Copy, PartialEq)]
+pub enum Side {
+	RoomDesk,
+	KiraPowf,
+	KiraTable,
+}
+
+impl Side {
+	pub const ALL: [Self; 3] = [Self::RoomDesk, Self::KiraPowf, Self::KiraTable];
+
+	/// Renders the whole show. room_desk's time has the reading of the scene and
+	/// the samples' check in it; kira's begins when its mixer is built.
+	pub fn render(self, scene: &Scene, samples: &[f32], output: &mut [f32]) -> Duration {
+		let tables = || scene::accepted(scene.file.as_bytes()).expect("an accepted scene");
+		match self {
+			Self::RoomDesk => {
+				let (number, time) = timed(|| room_desk(scene, samples, output));
+				assert_eq!(number, 0, "room_desk refuses {}", scene.name);
+				time
+			}
+			Self::KiraPowf => {
+				let mut show = kira_powf::harness::Show::new(&tables(), samples);
+				timed(|| show.render(output)).1
+			}
+			Self::KiraTable => {
+				let mut show = kira_table::harness::Show::new(&tables(), samples);
+				timed(|| show.render(output)).1
+			}
+		}
+	}
+}
+
+/// What room_desk does before the first block: a call whose output has a length
+/// that question 10 refuses.
+pub fn reading(scene: &Scene, samples: &[f32]) -> Duration {
+	let (number, time) = timed(|| room_desk(scene, samples, &mut []));
+	assert_eq!(number, 10, "question 10 is the last");
+	time
+}
+
+fn room_desk(scene: &Scene, samples: &[f32], output: &mut [f32]) -> u32 {
+	let file = scene.file.as_bytes();
+	// SAFETY: the three slices live through the call, and only `output` is written.
+	unsafe {
+		room_desk_render(
+			file.as_ptr(),
+			file.len(),
+			samples.as_ptr(),
+			samples.len(),
+			output.as_mut_ptr(),
+			output.len(),
+		)
+	}
+}
+
+fn timed<T>(work: impl FnOnce() -> T) -> (T, Duration) {
+	let start = processor_time();
+	let result = work();
+	(result, processor_time() - start)
+}
+
+/// Of this thread: on a busy machine the waits for a processor don't count.
+fn processor_time() -> Duration {
+	let mut time = Timespec {
+		seconds: 0,
+		nanoseconds: 0,
+	};
+	// SAFETY: `time` is as the C library has it on Linux, x86-64.
+	let failed = unsafe { clock_gettime(CLOCK_THREAD_CPUTIME_ID, &mut time) };
+	assert_eq!(failed, 0, "the thread has a clock");
+	Duration::new(time.seconds as u64, time.nanoseconds as u32)
+}
