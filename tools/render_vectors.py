@@ -4,18 +4,21 @@
     tools/render_vectors.py ORACLE             writes crates/render_vectors/stdin and stdout
     tools/render_vectors.py ORACLE --check     writes nothing, and says whether they are as it would write them
 
-The scenes are the stored ones of oracle/scenes whose output is at most 600 samples long, and generated ones with short outputs (seed below).
-It fails unless 200 scenes are there, and among them 1, 2, 3 and 8 channels, every easing, and orders of every kind.
+The scenes are the stored ones of oracle/scenes whose output is at most 600 samples long, generated ones with short outputs (seed below), and both scenes of
+each pair of tools/alike_pairs.py and of some generated alike pairs that sound. It fails unless 200 scenes are there beside the pairs, and among them 1, 2, 3 and 8 channels, every easing, and orders of
+every kind; and unless the two outputs of each alike pair are equal in every bit, and those of each control pair differ.
 """
 import pathlib
 import subprocess
 import sys
 
+import alike_pairs
 from case_stream import answers, as_library, joined, split
 
 ROOT = pathlib.Path(__file__).resolve().parent.parent
 CRATE = ROOT / "crates/render_vectors"
 SEED, MADE, WANTED = 8, 6000, 170
+PAIRS_MADE, PAIRS_WANTED = 800, 12
 ROOM = 500000  # bytes that the program can read
 
 
@@ -53,26 +56,55 @@ def chosen(oracle):
     missing -= set().union(*(marks(case[1]) for case in cases if case[3]))
     assert not missing, missing
     assert len(cases) >= 200, len(cases)
-    assert len(joined(cases)) <= ROOM, len(joined(cases))
     return cases
+
+
+def both_cases(pair):
+    return [(1, scene.text(), scene.sample_bytes(), scene.output_length()) for scene in pair.scenes]
+
+
+def sounding(oracle):
+    """Alike pairs with some track chosen, ten samples of whose outputs sound: most stored pairs are silent."""
+    made = [alike_pairs.pairs.from_seed(SEED, n) for n in range(PAIRS_MADE)]
+    made = [pair for pair in made if pair.chosen[0] and alike_pairs.pairs.alike(pair)]
+    made = [both for both in map(both_cases, made) if all(case[3] <= 200 and len(case[2]) <= 1600 for case in both)]
+    loud = [both for both in made if sum(n % 2**31 > 0 for n in answers([oracle, "batch"], both)[0][1]) >= 10]
+    assert len(loud) >= PAIRS_WANTED, len(loud)
+    return loud[:PAIRS_WANTED]
+
+
+def paired(oracle):
+    """The scenes of pairs, the two of a pair in turn: of the alike ones, and of the control pairs."""
+    alike, control = ([both_cases(pair) for _, pair in group] for group in alike_pairs.stored()[:2])
+    return sum(alike + sounding(oracle), []), sum(control, [])
+
+
+def differing(answered):
+    """Of how many pairs, all accepted, the two outputs differ in some bit."""
+    assert all(number == 0 for number, _ in answered)
+    return sum(one != other for one, other in zip(answered[::2], answered[1::2]))
 
 
 def main():
     oracle = sys.argv[1]
-    cases = chosen(oracle)
-    lines = []
-    for case, (number, samples) in zip(cases, answers([oracle, "batch"], cases)):
-        # on a refusal the program's buffer holds zeros
-        lines += [number, *(samples if number == 0 else [0] * case[3])]
+    groups = [chosen(oracle), *paired(oracle)]
+    by_group = [answers([oracle, "batch"], group) for group in groups]
+    alike, control = (len(group) // 2 for group in groups[1:])
+    assert [differing(group) for group in by_group[1:]] == [0, control]
+    cases, answered = sum(groups, []), sum(by_group, [])
+    # on a refusal the program's buffer holds zeros
+    lines = [n for case, (number, samples) in zip(cases, answered) for n in (number, *(samples if number == 0 else [0] * case[3]))]
     files = {"stdin": joined(cases), "stdout": "".join(f"{n}\n" for n in lines).encode()}
+    assert len(files["stdin"]) <= ROOM, len(files["stdin"])
     if sys.argv[2:] == ["--check"]:
         same = all((CRATE / name).read_bytes() == text for name, text in files.items())
         print("as it would be written" if same else "not as it would be written")
         sys.exit(not same)
     for name, text in files.items():
         (CRATE / name).write_bytes(text)
-    silent = sum(not any(samples) for number, samples in answers([oracle, "batch"], cases) if number == 0)
+    silent = sum(not any(samples) for number, samples in answered if number == 0)
     print(f"{len(cases)} scenes, {len(lines) - len(cases)} samples, {silent} silent, {len(files['stdin'])} bytes in, {len(files['stdout'])} out")
+    print(f"{alike} alike pairs, outputs equal in every bit; {control} control pairs, outputs that differ")
 
 
 main()

@@ -1,5 +1,8 @@
+-- `show::render` meets its contract. The test of the number is used by `omega` alone: so a test that turns scenes away unwritten is refused where the output
+-- is told, at `unwritten`. Assumes nothing.
 use mathlib.Core.Path.{_≡_, sym, ap, _∙_, subst}
 use Prim.Native.Nat.{_*_}
+use native.Mathlib.Omega.{arith}
 use lib.ListN.{length}
 use Rattle.scene_file.specs.Grammar.{tablesOf}
 use Rattle.scene_questions.specs.Questions.{answer}
@@ -8,7 +11,7 @@ use Rattle.scene.specs.Scene.{sceneOf}
 use Rattle.accepted.specs.SceneOk.{SceneOk, SamplesOk}
 use Rattle.accepted.specs.Accepted.{accepted-ok, accepted-samples, accepted-length}
 use Rattle.renderer.specs.Renderer.{rendered}
-use Rattle.room_desk.specs.Render.{AreF32}
+use Rattle.room_desk.specs.Render.{outputOf, AreF32}
 use Rattle.scene.specs.Laws.Answer.{answered-number, answered-scene}
 use Rattle.room_desk.specs.RenderLaws.{output-refused}
 use Rattle.room_desk.specs.Silence.{output-accepted, silence}
@@ -29,8 +32,8 @@ returns : tie.Need-returns
 returns c =
     let args = c .before .before .before .before .before .before .args in
     let number = answered-number (args .scene .now) (args .samples .now) (length (args .output .now)) (c .before .before .read-scene .ensures) in
-    let refuses : answer (args .scene .now) (args .samples .now) (length (args .output .now)) ≡ 0 → ⊥ = λ e. c .if1 .taken (number ∙ e) in
-    (number, (output-refused (args .scene .now) (args .samples .now) (args .output .now) refuses, λ file recordings there chosen others fit e f same. absurd (refuses e)))
+    let unwritten : args .output .now ≡ outputOf (args .scene .now) (args .samples .now) (args .output .now) = output-refused (args .scene .now) (args .samples .now) (args .output .now) (λ e. omega (arith, c .if1 .taken, number, e)) in
+    (number, (unwritten, λ file recordings there chosen others fit e f same. absurd (omega (arith, c .if1 .taken, number, e))))
 
 -- src/show.rt:52:5
 render-scene-requires : tie.Need-render-scene-requires
@@ -39,8 +42,9 @@ render-scene-requires c κs =
     let read = c .before .before .before .before .read-scene in
     let n = length (args .output .now) in
     let number = answered-number (args .scene .now) (args .samples .now) n (read .ensures) in
-    let accepted = sym number ∙ c .before .before .if1 .left in
-    let scene = answered-scene (args .scene .now) (args .samples .now) n (read .ensures) (c .before .before .if1 .left) in (
+    let passes : read .result .number ≡ 0 = omega (arith, c .before .before .if1 .left) in
+    let accepted = sym number ∙ passes in
+    let scene = answered-scene (args .scene .now) (args .samples .now) n (read .ensures) passes in (
       subst SceneOk (sym scene) (accepted-ok (args .scene .now) (args .samples .now) n accepted),
       (
         subst (λ (s : Scene). SamplesOk s (args .samples .now)) (sym scene) (accepted-samples (args .scene .now) (args .samples .now) n accepted),
@@ -60,8 +64,9 @@ returns-2 c =
     let read = c .before .before .before .before .before .before .before .read-scene in
     let n = length (args .output .now) in
     let number = answered-number (args .scene .now) (args .samples .now) n (read .ensures) in
-    let accepted = sym number ∙ c .before .before .before .before .before .if1 .left in
-    let scene = answered-scene (args .scene .now) (args .samples .now) n (read .ensures) (c .before .before .before .before .before .if1 .left) in
+    let passes : read .result .number ≡ 0 = omega (arith, c .before .before .before .before .before .if1 .left) in
+    let accepted = sym number ∙ passes in
+    let scene = answered-scene (args .scene .now) (args .samples .now) n (read .ensures) passes in
     let fit : AreF32 (args .samples .now) = λ i h. c .before .before .before .before .before .before .before .before .before .shared-slice-known2 .given i in
     let written = c .before .before .render-scene .ensures ∙ ap (λ (s : Scene). rendered s (args .samples .now)) scene ∙ sym (output-accepted (args .scene .now) (args .samples .now) (args .output .now) accepted) in (
       sym accepted,

@@ -1,5 +1,7 @@
+-- `show::render_scene` meets its contract. Where the loop's test is used, `omega` has beside it that there is a block: so a test that ends the loop too early
+-- is refused where the output is told, at `returns`. Assumes nothing.
 use mathlib.Core.Path.{_≡_, refl, sym, ap, _∙_, subst}
-use Prim.Native.Nat.{_+_, _-_, _*_, _≤_}
+use Prim.Native.Nat.{_+_, _-_, _*_, _≤_, _<_}
 use native.Mathlib.Nat.{le-trans, le-of-eq}
 use native.Mathlib.Omega.{arith}
 use lib.ListN.{length}
@@ -28,61 +30,53 @@ Inv-loop scene samples output₀ table blocks wide mixer₀ b₀ output mixer b 
 abbrev μ-loop : tie.MeasureT-loop
 μ-loop scene samples output₀ table blocks wide mixer₀ b₀ output mixer b = scene .head .blocks - b
 
--- src/show.rt:25:17
+-- ---- before the loop
+
 gain-table-requires : tie.Need-gain-table-requires Inv-loop μ-loop
 gain-table-requires c κs = tt
 
--- src/show.rt:28:17
 mul-width : tie.Need-mul-width Inv-loop μ-loop
 mul-width c = omega (arith, width-most (c .before .before .before .before .before .args .scene) (c .before .before .before .before .before .pre .0))
 
--- src/show.rt:29:9
 new-requires : tie.Need-new-requires Inv-loop μ-loop
 new-requires c κs = c .before .before .before .before .before .pre .0
 
--- src/show.rt:31:5
 loop-holds : tie.Need-loop-holds Inv-loop μ-loop
 loop-holds c = (omega arith, refl, c .new .ensures ∙ mixer-start (c .before .before .before .before .before .before .args .scene), begun-zero _ _)
 
--- src/show.rt:32:20
+-- ---- a turn
+
 mul-from : tie.Need-mul-from Inv-loop μ-loop
 mul-from c =
     let start = c .before .before .before .before .before .before .before .before in
-    omega (arith, block-fits (start .args .scene) (start .pre .0) (c .before .loop .b) (c .loop-test .taken))
+    omega (arith, block-fits (start .args .scene) (start .pre .0) (c .before .loop .b) (omega (arith, c .loop-test .taken, start .pre .0 .blocks .0)))
 
--- src/show.rt:33:18
 add-to : tie.Need-add-to Inv-loop μ-loop
 add-to c =
     let start = c .before .before .before .before .before .before .before .before in
-    omega (arith, block-fits (start .args .scene) (start .pre .0) (c .before .loop .b) (c .loop-test .taken))
+    omega (arith, block-fits (start .args .scene) (start .pre .0) (c .before .loop .b) (omega (arith, c .loop-test .taken, start .pre .0 .blocks .0)))
 
--- src/show.rt:34:9
 on-start-processing-requires : tie.Need-on-start-processing-requires Inv-loop μ-loop
 on-start-processing-requires c κs = c .before .before .before .before .before .before .before .before .pre .0
 
--- src/show.rt:35:72
 mul-process-block : tie.Need-mul-process-block Inv-loop μ-loop
 mul-process-block c =
     let start = c .before .before .before .before .before .before .before .before .before .before in
-    omega (arith, block-fits (start .args .scene) (start .pre .0) (c .before .before .before .loop .b) (c .before .before .loop-test .taken))
+    omega (arith, block-fits (start .args .scene) (start .pre .0) (c .before .before .before .loop .b) (omega (arith, c .before .before .loop-test .taken, start .pre .0 .blocks .0)))
 
--- src/show.rt:35:72
 sub-process-block : tie.Need-sub-process-block Inv-loop μ-loop
 sub-process-block c = search needs
 
--- src/show.rt:35:72
 part-process-block-start : tie.Need-part-process-block-start Inv-loop μ-loop
 part-process-block-start c = search needs
 
--- src/show.rt:35:72
 part-process-block-end : tie.Need-part-process-block-end Inv-loop μ-loop
 part-process-block-end c =
     let start = c .before .before .before .before .before .before .before .before .before .before in
     let s = start .args .scene in
     let l = c .before .before .before in
-    le-trans (block-ends s (start .pre .0) (l .loop .b) (c .before .before .loop-test .taken)) (le-of-eq (sym (l .loop .inv .1 ∙ show-length s (start .pre .0) (start .pre .1 .1))))
+    le-trans (block-ends s (start .pre .0) (l .loop .b) (omega (arith, c .before .before .loop-test .taken, start .pre .0 .blocks .0))) (le-of-eq (sym (l .loop .inv .1 ∙ show-length s (start .pre .0) (start .pre .1 .1))))
 
--- src/show.rt:35:9
 process-block-requires : tie.Need-process-block-requires Inv-loop μ-loop
 process-block-requires c κs =
     let start = c .before .before .before .before .before .before .before .before .before .before .before in
@@ -90,24 +84,24 @@ process-block-requires c κs =
     let ok = start .pre .0 in
     let l = c .before .before .before .before in
     let b = l .loop .b in
-    let h = c .before .before .before .loop-test .taken in
+    let h : b < s .head .blocks = omega (arith, c .before .before .before .loop-test .taken, ok .blocks .0) in
     let n = b * chunkCount (s .head) in
     let reached = subst (MixerOk s n) (sym (c .before .before .on-start-processing .ensures ∙ ap (mixerOrdered s b) (l .loop .inv .2))) (ordered-ok s n b (mixerAt s b) ok (blocks-ok s ok b)) in
     let long = le-trans (block-ends s ok b h) (le-of-eq (sym (l .loop .inv .1 ∙ show-length s ok (start .pre .1 .1)))) in
     (c .before .before .before .before .before .before .before .before .gain-table .ensures, (ok, (start .pre .1 .0, ((n, reached, chunks-few s ok b h), length-part (b * width s) (width s) (l .loop .output) long))))
 
--- src/show.rt:36:9
 add-b : tie.Need-add-b Inv-loop μ-loop
 add-b c =
     let l = c .before .before .before .before .before .before .before in
     let start = l .before .before .before .before .before .before .before in
     omega (arith, c .before .before .before .before .before .before .loop-test .taken, start .pre .0 .blocks .1)
 
--- src/show.rt:31:5
 loop-less : tie.Need-loop-less Inv-loop μ-loop
-loop-less c = search needs
+loop-less c =
+    let l = c .before .before .before .before .before .before .before in
+    let start = l .before .before .before .before .before .before .before in
+    omega (arith, c .before .before .before .before .before .before .loop-test .taken, start .pre .0 .blocks .0)
 
--- src/show.rt:31:5
 loop-again : tie.Need-loop-again Inv-loop μ-loop
 loop-again c =
     let l = c .before .before .before .before .before .before .before in
@@ -116,17 +110,17 @@ loop-again c =
     let b = l .loop .b in
     let done = c .before .before .process-block in
     let ordered = c .before .before .before .before .before .on-start-processing .ensures in (
-      omega (arith, c .before .before .before .before .before .before .loop-test .taken),
+      omega (arith, c .before .before .before .before .before .before .loop-test .taken, start .pre .0 .blocks .0),
       same-len-mid (b * width s) (b * width s + width s - b * width s) (l .loop .output) (done .last .1 .1 .1 .1 .0) (done .kept .1 .1 .1 .1 .0) ∙ l .loop .inv .1,
       mixer-turn s b (l .loop .inv .2) ordered (done .ensures .0),
       show-turn s (start .args .samples .now) (start .pre .0) b (start .args .output .now) (l .loop .inv .2) ordered (l .loop .inv .3) (done .ensures .1),
     )
 
--- src/show.rt:19:1
+-- ---- the end
+
 same-length : tie.Need-same-length Inv-loop μ-loop
 same-length c = search needs
 
--- src/show.rt:19:1
 returns : tie.Need-returns Inv-loop μ-loop
 returns c =
     let l = c .before in
