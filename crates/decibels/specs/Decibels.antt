@@ -1,4 +1,5 @@
 pub mod Position
+pub mod WholePart
 pub mod Laws
 -- decibels.rs: `Decibels::as_amplitude`, with the gain table in place of `powf`.
 use mathlib.Core.Bool.{Bool, true, false, cond, not, _&&_}

@@ -1,7 +1,7 @@
 // kira's decibels.rs: a change in volume, and the factor that it stands for.
 ghost use mathlib.Core.Path.{_≡_};
 ghost use mathlib.Core.Bool.{not};
-ghost use Prim.Native.Nat.{_<_};
+ghost use Prim.Native.Nat.{_^_, _<_};
 ghost use lib.Ieee as Ieee;
 ghost use lib.Dec.{T};
 ghost use Rattle.gain_table.specs.GainTable.{IsGainTable};
@@ -64,6 +64,18 @@ impl Decibels {
     }
 }
 
+// x without its fraction: the f64's digits without those below the point.
+fn whole_part(x: f64) -> u64
+    requires { ⌜ T (Ieee.lt x (whole (2 ^ 53))) ⌝ }
+    ensures { λ r. ⌜ r ≡ Ieee.toUnsigned 64 x ⌝ }
+{
+    if x < 1.0 {
+        return 0;
+    }
+    let bits = f64::to_bits(x);
+    (bits % (1 << 52) + (1 << 52)) >> (1075 - (bits >> 52))
+}
+
 // Between silence and the limit, so that every number here is small.
 fn position_of(n: f32) -> Position
     requires { ⌜ T (admitted n) ⌝ }
@@ -73,7 +85,7 @@ fn position_of(n: f32) -> Position
 {
     let steps = (n as f64) * 16.0;
     if steps < 0.0 {
-        let whole = std::num::truncating_f64_to_u64(-steps);
+        let whole = whole_part(-steps);
         if -steps == whole as f64 {
             return Position {
                 entry: (960 - whole) as usize,
@@ -85,7 +97,7 @@ fn position_of(n: f32) -> Position
             rest: steps + ((whole + 1) as f64),
         }
     } else {
-        let whole = std::num::truncating_f64_to_u64(steps);
+        let whole = whole_part(steps);
         Position {
             entry: (960 + whole) as usize,
             rest: steps - (whole as f64),

@@ -16,7 +16,7 @@ use lib.Ieee.Exact.{HasValue}
 use lib.Ieee.Order.{drop, kept}
 use lib.Ieee.Scale.{round-same}
 use Rattle.number.specs.Nearest.{nearestQuotient}
-use Rattle.number.specs.NearestLaws.{nearest-quotient-nearest, nearest-most, nearest-least, nearest-small}
+use Rattle.number.specs.NearestLaws.{nearest-quotient-nearest, nearest-quotient-shift, nearest-most, nearest-least, nearest-small}
 use Rattle.number.specs.Narrow.{narrowed, narrowedBits}
 use Rattle.number.specs.Fields.{low-value, high-value, field-zero, field-value}
 use Rattle.number.specs.Rounding.{bits, round-bits, round-bits-of, bits-of-infinity}
@@ -105,6 +105,15 @@ pub narrowed-normal : (b : ℕ) → 897 ≤ b / 2 ^ 52 → b / 2 ^ 52 ≤ 1150 �
 narrowed-normal b g h =
     let q : nearestQuotient (digits b) (2 ^ 29) ≤ 2 ^ 24 = kept-few b 29 (omega arith) in
     normal b g (omega arith) ∙ omega arith
+
+-- the exponent's field and the digits rounded as one number: the field's unit is an even multiple of what is cut
+pub narrowed-at-once : (b : ℕ) → 897 * 2 ^ 52 ≤ b → b < 1151 * 2 ^ 52 → nearestQuotient b (2 ^ 29) ≡ narrowedBits b + 896 * 2 ^ 23
+narrowed-at-once b g h =
+    let k = (b / 2 ^ 52 - 1) * 2 ^ 22 in
+    let e : b ≡ 2 * (k * 2 ^ 29) + digits b = omega arith in
+    ap (λ (y : ℕ). nearestQuotient y (2 ^ 29)) e
+    ∙ nearest-quotient-shift (digits b) (2 ^ 29) k (pow-pos 29)
+    ∙ omega (arith, narrowed-normal b (omega arith) (omega arith))
 
 -- beyond the largest f32, and the infinity
 pub narrowed-huge : (b : ℕ) → 1150 < b / 2 ^ 52 → b ≤ 2047 * 2 ^ 52 → narrowedBits b ≡ 255 * 2 ^ 23

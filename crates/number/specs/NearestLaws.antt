@@ -89,6 +89,21 @@ pub nearest-quotient-same : (a b c d : ℕ) → 0 < b → 0 < d → a * d ≡ c 
 unfolding nearestQuotient
 nearest-quotient-same a b c d B D h = closest-same a b c d B D h
 
+-- ---- an even whole number added to the fraction
+
+pub nearest-quotient-shift : (n d k : ℕ) → 0 < d → nearestQuotient (2 * (k * d) + n) d ≡ nearestQuotient n d + 2 * k
+nearest-quotient-shift n d k D = nearest-quotient-is (2 * (k * d) + n) d (nearestQuotient n d + 2 * k) D (shifted (nearestQuotient n d) (nearest-quotient-nearest n d D))
+  where
+    shifted : (q : ℕ) → IsNearest n d q → IsNearest (2 * (k * d) + n) d (q + 2 * k)
+    shifted q Q =
+        let e : (q + 2 * k) * d ≡ q * d + 2 * (k * d) = add-mul q (2 * k) d ∙ ap (λ (x : ℕ). q * d + x) (mul-assoc 2 k d) in
+        record {
+          notBelow = omega (arith, Q .notBelow);
+          notAbove = omega (arith, Q .notAbove);
+          evenBelow = λ t. omega (arith, Q .evenBelow (omega arith));
+          evenAbove = λ t. omega (arith, Q .evenAbove (omega arith));
+        }
+
 -- ---- bounds
 
 pub nearest-most : (n d q b : ℕ) → 0 < d → n < b * d → IsNearest n d q → q ≤ b

@@ -1,6 +1,6 @@
 // An f64 rounded to an f32, ties to even, worked out from the bits.
 ghost use mathlib.Core.Path.{_≡_};
-ghost use Prim.Native.Nat.{_^_, _<_, _*_, _≤_};
+ghost use Prim.Native.Nat.{_^_, _<_, _+_, _*_, _/_, _%_, _≤_};
 ghost use Rattle.number.specs.Narrow.{narrowed, narrowedBits};
 use crate::nearest::nearest_quotient;
 
@@ -27,6 +27,24 @@ fn magnitude(bits: u64) -> u64
     }
 }
 
+// The same with the sign, for all but a NaN.
+//
+// A positive number that is normal in both formats has a quick way: the exponent's field and the
+// digits are rounded as one number.
+fn pattern(bits: u64) -> u64
+    requires { ⌜ bits % 2 ^ 63 ≤ 2047 * 2 ^ 52 ⌝ }
+    ensures { λ r. ⌜ r ≡ bits / 2 ^ 63 * 2 ^ 31 + narrowedBits (bits % 2 ^ 63) ⌝ }
+{
+    if 897 << 52 <= bits {
+        if bits < 1151 << 52 {
+            return nearest_quotient(bits, 29) - (896 << 23);
+        }
+    }
+    let sign = bits >> 63;
+    let magnitude = magnitude(bits % (1 << 63));
+    (sign << 31) + magnitude
+}
+
 pub fn f64_to_f32(x: f64) -> f32
     ensures { λ r. ⌜ r ≡ narrowed x ⌝ }
 {
@@ -34,7 +52,5 @@ pub fn f64_to_f32(x: f64) -> f32
         return 0.0 / 0.0;
     }
     let bits = f64::to_bits(x);
-    let sign = bits >> 63;
-    let magnitude = magnitude(bits % (1 << 63));
-    f32::from_bits(((sign << 31) + magnitude) as u32)
+    f32::from_bits(pattern(bits) as u32)
 }

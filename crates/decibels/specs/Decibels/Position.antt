@@ -2,14 +2,14 @@
 -- Assumes nothing.
 use mathlib.Core.Path.{_≡_, refl, sym, ap, _∙_, subst}
 use mathlib.Core.Bool.{Bool, true, false, not, _&&_, _||_, Bool·beq, true≢false}
-use Prim.Native.Nat.{ℕ, zero, suc, _+_, _-_, _*_, _/_, _%_, _^_, _≤_, _<_, zero-le, min}
-use native.Mathlib.Nat.{le-trans, le-of-eq, le-of-lt, lt-of-le-of-lt, lt-of-lt-of-le, lt-of-not-le, not-le-of-lt, mul-one, one-mul, zero-mul, mul-comm, mul-assoc, mul-right-comm, mul-left-comm, mul-pos, add-mul, mul-sub, mul-add-div-right, add-mul-mod-self-right, div-add-mod', div-lt-iff-lt-mul, div-eq-of-lt-le, mod-eq-sub-div-mul, mul-mod-left, mul-div-cancel, mul-le-mul-right, le-antisymm, zero-lt-suc, le-of-suc-le-suc, le-div-iff-mul-le, div-mul-le-self, mod-lt, le-add-right, min-eq-left, lt-of-mul-lt-mul-right, mul-lt-mul-of-pos-right, add-comm}
+use Prim.Native.Nat.{ℕ, zero, suc, _+_, _-_, _*_, _/_, _%_, _^_, _≤_, _<_, zero-le}
+use native.Mathlib.Nat.{le-trans, le-of-eq, le-of-lt, lt-of-le-of-lt, lt-of-lt-of-le, lt-of-not-le, not-le-of-lt, mul-one, one-mul, zero-mul, mul-comm, mul-assoc, mul-right-comm, mul-left-comm, mul-pos, add-mul, mul-sub, mul-add-div-right, add-mul-mod-self-right, div-add-mod', div-lt-iff-lt-mul, div-eq-of-lt-le, mod-eq-sub-div-mul, mul-mod-left, mul-div-cancel, mul-le-mul-right, le-antisymm, zero-lt-suc, le-of-suc-le-suc, le-div-iff-mul-le, div-mul-le-self, mod-lt, le-add-right, lt-of-mul-lt-mul-right, mul-lt-mul-of-pos-right, add-comm}
 use native.Mathlib.Omega.{arith}
 use native.Mathlib.Decide.{ℕ-discrete}
 use lib.IntN.{ℤ, pos, negsuc}
 use lib.Dec.{T, ltb, eqb, ltb→lt, le→leb, lt→ltb, nltb→le, eqb→eq, eqb-refl, lit<, lit≤, T-not}
 use lib.Arith.{lt-of-le-ne}
-use lib.Pow.{pow-pos, pow-add, pow-mono, pow-lt, shl-lt, le-ones}
+use lib.Pow.{pow-pos, pow-add, pow-mono, pow-lt, shl-lt}
 use lib.Ieee.{Float, nan, inf, fin, Format, binary32, binary64, low, up, down, unlike, round, sum, neg, add, sub, mul, lt, le, eq, fits, ofInt, ofBits, isNan, toUnsigned, inFloat}
 use lib.Ieee.Digits.{back}
 use lib.Ieee.Fits.{up-pos, down-pos}
@@ -211,27 +211,26 @@ below-zero (fin true m e) s A C v a =
     ∙ v .0
 below-zero (fin false m e) s A C v a = ap (λ (z : ℕ). ltb (m * up e * 1) z) (zero-mul (down e)) ∙ le-ltb (m * up e * 1) 0 zero-le ∙ v .0
 
-pub castable : (y : Float) (A C : ℕ) → HasValue y false A C → A < 2 ^ 64 * C → T (lt (fin true 1 (pos 0)) y) × T (lt y (fin false 1 (pos 64)))
-unfolding lt
+pub castable : (y : Float) (A C : ℕ) → HasValue y false A C → A < 2 ^ 53 * C → T (lt y (whole (2 ^ 53)))
+unfolding lt ofInt
 castable nan A C v fit = absurd v
 castable (inf t) A C v fit = absurd v
 castable (fin true m e) A C v fit = absurd (true≢false (v .0))
-castable (fin false m e) A C v fit = (
-  lt→ltb 0 (1 * down e + m * up e * 1) (lt-of-lt-of-le (down-pos e) (le-trans (le-of-eq (sym (one-mul (down e)))) (le-add-right (1 * down e) (m * up e * 1)))),
-  lt→ltb (m * up e * 1) (2 ^ 64 * down e)
-      (lt-of-le-of-lt (le-of-eq (mul-one (m * up e)))
-      (lt-of-mul-lt-mul-right C
-      (lt-of-le-of-lt (le-of-eq (v .1)) (lt-of-lt-of-le (mul-lt-mul-of-pos-right fit (down-pos e)) (le-of-eq (mul-right-comm (2 ^ 64) C (down e))))))),
-)
+castable (fin false m e) A C v fit =
+    lt→ltb (m * up e * 1) (2 ^ 53 * down e)
+    (lt-of-le-of-lt (le-of-eq (mul-one (m * up e)))
+    (lt-of-mul-lt-mul-right C
+    (lt-of-le-of-lt (le-of-eq (v .1)) (lt-of-lt-of-le (mul-lt-mul-of-pos-right fit (down-pos e)) (le-of-eq (mul-right-comm (2 ^ 53) C (down e)))))))
 
-pub cut : (y : Float) (A C : ℕ) → HasValue y false A C → 0 < C → A < 2 ^ 64 * C → toUnsigned 64 y ≡ A / C
+pub cut : (y : Float) (A C : ℕ) → HasValue y false A C → 0 < C → A < 2 ^ 53 * C → toUnsigned 64 y ≡ A / C
 unfolding toUnsigned
 cut nan A C v above fit = absurd v
 cut (inf t) A C v above fit = absurd v
 cut (fin true m e) A C v above fit = absurd (true≢false (v .0))
 cut (fin false m e) A C v above fit =
     let q : m * up e / down e ≡ A / C = div-same (m * up e) (down e) A C (down-pos e) above (v .1) in
-    ap (λ (z : ℕ). min z (2 ^ 64 - 1)) q ∙ min-eq-left (le-ones 64 (div-lt-iff-lt-mul above .1 fit))
+    let l : A / C < 2 ^ 53 = div-lt-iff-lt-mul above .1 fit in
+    omega arith
 
 pub negated : (x : Float) (A C : ℕ) → HasValue x true A C → HasValue (neg x) false A C
 unfolding neg
@@ -357,14 +356,14 @@ from n S h =
       rest = S .rest ∙ ap (λ (z : Bool). round binary64 false (sixteenths z (S .a) (S .c) % S .c) (S .c)) e;
     }
 
--- both are far below 2 ^ 64
-wide : (A C k : ℕ) → 0 < C → A ≤ k * C → k < 2 ^ 64 → A < 2 ^ 64 * C
+-- both are far below 2 ^ 53
+wide : (A C k : ℕ) → 0 < C → A ≤ k * C → k < 2 ^ 53 → A < 2 ^ 53 * C
 wide A C k h b l = lt-of-le-of-lt b (mul-lt-mul-of-pos-right l h)
 
-pub below-wide : {n : Float} (b : Below n) → b .A < 2 ^ 64 * b .C
+pub below-wide : {n : Float} (b : Below n) → b .A < 2 ^ 53 * b .C
 below-wide b = wide (b .A) (b .C) 960 (b .above) (le-of-lt (b .bound)) (lit< tt)
 
-pub from-wide : {n : Float} (b : From n) → b .A < 2 ^ 64 * b .C
+pub from-wide : {n : Float} (b : From n) → b .A < 2 ^ 53 * b .C
 from-wide b = wide (b .A) (b .C) 384 (b .above) (b .bound) (lit< tt)
 
 -- ---- the whole part that the code cuts off

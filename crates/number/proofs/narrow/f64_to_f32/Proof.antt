@@ -11,7 +11,6 @@ use Rattle.number.specs.Fields.{holds}
 use Rattle.number.specs.Narrow.{narrowed, narrowedBits}
 use Rattle.number.specs.NarrowLaws.{narrowed-fits, narrowed-no-nan}
 use Rattle.number.specs.NarrowBits.{magnitude-most, narrowed-from-bits}
-use borrow.Author.Needs.{needs}
 use Rattle.number.proofs.narrow.f64_to_f32.Statement.{statement}
 use Rattle.number.proofs.narrow.f64_to_f32.Tie as tie
 
@@ -26,20 +25,19 @@ no-nan nan e = subst (λ (t : Bool). T t) (sym nan-differs ∙ e) tt
 no-nan (inf s) e = tt
 no-nan (fin s m d) e = tt
 
--- the sum is the result's bits
-module _ (x : Float) (f : fits binary64 x ≡ true) (e : ne x x ≡ false) (m : ℕ) (E : m ≡ narrowedBits (toBits binary64 x % 2 ^ 63)) where
-  written : toBits binary64 x / 2 ^ 63 * 2 ^ 31 % 2 ^ 64 + m ≡ toBits binary32 (narrowed x)
-  written = omega (arith, toBits-lt binary64 x (holds f), narrowed-from-bits x (holds f) (no-nan x e))
+-- p is the result's pattern
+module _ (x : Float) (f : fits binary64 x ≡ true) (e : ne x x ≡ false) (p : ℕ) (E : p ≡ toBits binary64 x / 2 ^ 63 * 2 ^ 31 + narrowedBits (toBits binary64 x % 2 ^ 63)) where
+  written : p ≡ toBits binary32 (narrowed x)
+  written = E ∙ sym (narrowed-from-bits x (holds f) (no-nan x e))
 
-  small : toBits binary64 x / 2 ^ 63 * 2 ^ 31 % 2 ^ 64 + m < 2 ^ 32
+  small : p < 2 ^ 32
   small = omega (arith, written, toBits-lt binary32 (narrowed x) (narrowed-fits x))
 
-  reads-back : ofBits binary32 (toBits binary64 x / 2 ^ 63 * 2 ^ 31 % 2 ^ 64 + m) ≡ narrowed x
+  reads-back : ofBits binary32 p ≡ narrowed x
   reads-back = ap (ofBits binary32) written ∙ ofBits-toBits binary32 (narrowed x) (narrowed-fits x)
 
-  no-nan-bits : T (not (nanBits binary32 (toBits binary64 x / 2 ^ 63 * 2 ^ 31 % 2 ^ 64 + m)))
-  no-nan-bits =
-      subst (λ (t : Bool). T (not t)) (sym (nanBits-is binary32 (toBits binary64 x / 2 ^ 63 * 2 ^ 31 % 2 ^ 64 + m) ∙ ap isNan reads-back)) (narrowed-no-nan x (no-nan x e))
+  no-nan-bits : T (not (nanBits binary32 p))
+  no-nan-bits = subst (λ (t : Bool). T (not t)) (sym (nanBits-is binary32 p ∙ ap isNan reads-back)) (narrowed-no-nan x (no-nan x e))
 
 returns : tie.Need-returns
 returns c = a-nan (c .before .args .x) (c .if1 .taken)
@@ -47,23 +45,17 @@ returns c = a-nan (c .before .args .x) (c .if1 .taken)
 float-to-bits-bits : tie.Need-float-to-bits-bits
 float-to-bits-bits c = no-nan (c .before .args .x) (c .if1 .left)
 
-rem-magnitude : tie.Need-rem-magnitude
-rem-magnitude c = search needs
-
-magnitude-requires : tie.Need-magnitude-requires
-magnitude-requires c κs = magnitude-most (c .before .args .x) (holds (c .before .good .0 .1)) (no-nan (c .before .args .x) (c .if1 .left))
-
-add-result : tie.Need-add-result
-add-result c = omega (arith, small (c .before .before .args .x) (c .before .before .good .0 .1) (c .before .if1 .left) (c .magnitude .result) (c .magnitude .ensures))
+pattern-requires : tie.Need-pattern-requires
+pattern-requires c κs = magnitude-most (c .before .args .x) (holds (c .before .good .0 .1)) (no-nan (c .before .args .x) (c .if1 .left))
 
 cast-result : tie.Need-cast-result
-cast-result c = omega (arith, small (c .before .before .args .x) (c .before .before .good .0 .1) (c .before .if1 .left) (c .magnitude .result) (c .magnitude .ensures))
+cast-result c = omega (arith, small (c .before .before .args .x) (c .before .before .good .0 .1) (c .before .if1 .left) (c .pattern .result) (c .pattern .ensures))
 
 float-from-bits-result : tie.Need-float-from-bits-result
-float-from-bits-result c = no-nan-bits (c .before .before .args .x) (c .before .before .good .0 .1) (c .before .if1 .left) (c .magnitude .result) (c .magnitude .ensures)
+float-from-bits-result c = no-nan-bits (c .before .before .args .x) (c .before .before .good .0 .1) (c .before .if1 .left) (c .pattern .result) (c .pattern .ensures)
 
 returns-2 : tie.Need-returns-2
-returns-2 c = reads-back (c .before .before .args .x) (c .before .before .good .0 .1) (c .before .if1 .left) (c .magnitude .result) (c .magnitude .ensures)
+returns-2 c = reads-back (c .before .before .args .x) (c .before .before .good .0 .1) (c .before .if1 .left) (c .pattern .result) (c .pattern .ensures)
 
 pub f64-to-f32-spec : {M : Type 1} → statement M
 f64-to-f32-spec =
@@ -71,9 +63,7 @@ f64-to-f32-spec =
     (tie.spec
     returns
     float-to-bits-bits
-    rem-magnitude
-    magnitude-requires
-    add-result
+    pattern-requires
     cast-result
     float-from-bits-result
     returns-2)
