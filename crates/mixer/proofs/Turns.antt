@@ -1,12 +1,17 @@
 -- What the loops of this crate share: an index within an array, and a turn that stores an element. Assumes nothing.
 use mathlib.Core.Path.{_≡_, sym, ap, _∙_}
+use mathlib.Core.Bool.{Bool, false, not, _&&_}
 use mathlib.Core.List.{List}
 use Prim.Native.Nat.{ℕ, _+_, _-_, _*_, _^_, _≤_, _<_}
 use native.Mathlib.Nat.{le-trans, le-of-lt, le-antisymm, lt-of-le-of-lt, mul-le-mul-right}
 use native.Mathlib.Numerals.{add-one-le}
 use native.Mathlib.Omega.{arith}
+use borrow.Author.Tests.{ne-eqb}
 use lib.ListN.{getD, set}
 use Rattle.laws.specs.Loop.{upto, changed, upto-end, changed-end, changed-here}
+use Rattle.scene.specs.declared.scene.Scene.{Scene}
+use Rattle.accepted.specs.Lines.{orderLine}
+use Rattle.mixer.specs.Orders.{overridden, counts}
 use Rattle.clock.specs.ClocksMove.{changed-turn-any}
 
 -- ---- an index below a count, and the count at most an array's length
@@ -48,3 +53,10 @@ module _ {A : Type 0} (f : ℕ → A → A) (l : List A) {now : List A} {i n : �
 module _ {S : Type 0} (f : ℕ → S → S) (s : S) {now : S} {i n : ℕ} where
   pub upto-ended : i ≤ n → n ≤ i → now ≡ upto f i s → now ≡ upto f n s
   upto-ended h k e = upto-end f s (le-antisymm h k) e
+
+-- ---- orders
+
+-- an order of another block does not count
+pub order-skipped : (s : Scene) (block i : ℕ) → (orderLine s i .block ≡ block → ⊥) → counts (s .orders) (s .«order_count») block i ≡ false
+unfolding counts
+order-skipped s block i h = ap (λ (b : Bool). b && not (overridden (s .orders) (s .«order_count») i)) (ne-eqb (orderLine s i .block) block h)

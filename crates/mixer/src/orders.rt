@@ -250,11 +250,16 @@ impl Mixer {
         ensures { λ r. ⌜ r ≡ upto (orderStep scene block) (scene .«order_count») self ⌝ }
     {
         let count = scene.order_count;
+        let orders = scene.orders;
         let mut mixer = self;
         let mut i = 0;
         while i < count {
-            mixer = mixer.order_at(scene, block, i);
+            let line = i;
+            let order = orders[line];
             i += 1;
+            if order.block == block {
+                mixer = mixer.order_at(scene, block, line);
+            }
         }
         mixer
     }
@@ -264,11 +269,16 @@ impl Mixer {
         ensures { λ r. ⌜ r ≡ upto (resumeStep scene block) (scene .«order_count») self ⌝ }
     {
         let count = scene.order_count;
+        let orders = scene.orders;
         let mut mixer = self;
         let mut i = 0;
         while i < count {
-            mixer = mixer.resume_at(scene, block, i);
+            let line = i;
+            let order = orders[line];
             i += 1;
+            if order.block == block {
+                mixer = mixer.resume_at(scene, block, line);
+            }
         }
         mixer
     }
