@@ -1,22 +1,16 @@
 -- What holds of every line of an array, and of each new value, holds once lines are set or changed. Assumes nothing.
-use mathlib.Core.Path.{_≡_, refl, sym, ap, _∙_, subst}
-use mathlib.Core.List.{List, [], _∷_}
-use Prim.Native.Nat.{ℕ, zero, suc, _≤_, _<_}
+use mathlib.Core.Path.{_≡_, sym, _∙_, subst}
+use mathlib.Core.List.{List}
+use Prim.Native.Nat.{ℕ, _≤_, _<_}
 use native.Mathlib.Nat.{le-trans, le-of-eq}
 use lib.ListN.{length, getD, set, length-set}
 use Rattle.laws.specs.Loop.{changed, changed-length, changed-below}
+use Rattle.track.specs.Written.{set-line}
 
 -- an array of so many places, and what holds of its first n lines; d stands past its end
 pub record ArrayOk {A : Type 0} (P : ℕ → A → Type 0) (n size : ℕ) (d : A) (l : List A) : Type 0 where
   pub places : length l ≡ size
   pub each : (j : ℕ) → j < n → P j (getD l j d)
-
-set-line : {A : Type 0} (P : A → Type 0) (l : List A) (i j : ℕ) (x d : A) → P (getD l j d) → (i ≡ j → P x) → P (getD (set l i x) j d)
-set-line P [] i j x d p h = p
-set-line P (y ∷ l) zero zero x d p h = h refl
-set-line P (y ∷ l) zero (suc j) x d p h = p
-set-line P (y ∷ l) (suc i) zero x d p h = p
-set-line P (y ∷ l) (suc i) (suc j) x d p h = set-line P l i j x d p (λ e. h (ap suc e))
 
 module _ {A : Type 0} {P : ℕ → A → Type 0} {n size : ℕ} {d : A} (l : List A) where
   pub set-array : (i : ℕ) (x : A) → ArrayOk P n size d l → (i < n → P i x) → ArrayOk P n size d (set l i x)

@@ -84,4 +84,5 @@ chunk-ok s samples c n m ok there h few =
       mainLevel = level-ok (m .«main_volume») (h .main);
       routed = routes-ok s c m ok h .each;
       held = sounds-ok s c m ok h samples there .each;
+      arrays = record { tracks = tracks-ok s c m ok h .places; sends = sends-ok s c m ok h .places; routes = routes-ok s c m ok h .places; sounds = sounds-ok s c m ok h samples there .places };
     }

@@ -9,7 +9,7 @@ use native.Mathlib.Omega.{arith}
 use lib.Dec.{T, lit≤}
 use lib.Ieee.{Float}
 use lib.Ieee.Scale.{finite}
-use lib.ListN.{length}
+use lib.ListN.{length, replicate}
 use Rattle.laws.specs.Kept.{rank}
 use Rattle.laws.specs.Float.{posZero, one}
 use Rattle.laws.specs.FloatBounds.{Within}
@@ -63,13 +63,13 @@ whole =
     record {
       frames = 1;
       «track_count» = 2;
-      tracks = muted ∷ inner ∷ [];
+      tracks = muted ∷ inner ∷ replicate 30 inner;
       «send_count» = 1;
-      sends = unity ∷ [];
+      sends = replicate 8 unity;
       «route_count» = 1;
-      routes = route ∷ [];
+      routes = replicate 64 route;
       «sound_count» = 2;
-      sounds = sound 1 ∷ sound 2 ∷ [];
+      sounds = sound 1 ∷ sound 2 ∷ replicate 62 (sound 2);
       main = unity;
     }
 
@@ -80,7 +80,7 @@ rest =
       «track_count» = 1;
       tracks = muted ∷ [];
       «send_count» = 1;
-      sends = unity ∷ [];
+      sends = replicate 8 unity;
       «route_count» = 1;
       routes = route ∷ [];
       «sound_count» = 0;
@@ -120,6 +120,7 @@ whole-ok =
       mainLevel = unity-in;
       routed = only (λ r. (1 ≤ routeLine whole r .send) × (routeLine whole r .send ≤ 8)) (lit≤ tt, lit≤ tt);
       held = two (λ k. 2 * (soundLine whole k .start + soundLine whole k .left) ≤ length samples) (lit≤ tt) (lit≤ tt);
+      arrays = record { tracks = refl; sends = refl; routes = refl; sounds = refl };
     }
 
 silent-here : Muted later whole 0

@@ -1,15 +1,18 @@
 -- What mixing a chunk reads: the lines, and every level before the chunk and at its end.
-use mathlib.Core.Bool.{false}
+use mathlib.Core.Path.{_≡_}
+use mathlib.Core.Bool.{Bool, false}
 use mathlib.Core.List.{List}
 use Prim.Native.Nat.{ℕ, _+_, _*_, _≤_, _<_}
 use lib.IntN.{pos}
 use lib.ListN.{getD, length}
-use lib.Ieee.{Float, nan, binary32, binary64, div, mul, ofInt}
+use lib.Ieee.{Float, nan, binary32, binary64, div, mul, eq, ofInt}
 use Rattle.decibels.specs.declared.decibels.Decibels.{Decibels}
 use Rattle.decibels.specs.declared.decibels.Amplitude.{Amplitude}
 use Rattle.decibels.specs.Decibels.{amplitude}
 use Rattle.laws.specs.Amount.{InUnit}
+use Rattle.laws.specs.Interpolate.{interpolate}
 use Rattle.laws.specs.DecibelRange.{ValueRange}
+use Rattle.number.specs.Narrow.{narrowed}
 use Rattle.tween.specs.Tweenable.{interpolated}
 use Rattle.track.specs.declared.chunk.Level.{Level}
 use Rattle.track.specs.declared.chunk.ChunkTrack.{ChunkTrack}
@@ -54,16 +57,51 @@ levelAmplitude l amount = record { 0 = amplitude (interpolated (l .before) (l .n
 unfoldable pub trackAmplitude : ChunkTrack → Float → Amplitude
 trackAmplitude t amount = record { 0 = mul binary32 (levelAmplitude (t .volume) amount .0) (levelAmplitude (t .fade) amount .0) }
 
+-- ---- the same as the loops over a chunk work it out
+
+-- a level stands still: its two values are equal as floats
+unfoldable pub isSteady : Level → Bool
+isSteady l = eq (l .before .0) (l .now .0)
+
+-- the one amplitude of such a level
+unfoldable pub steadyAmplitude : Level → Amplitude
+steadyAmplitude l = record { 0 = amplitude (l .now .0) }
+
+-- the part of a chunk of n frames at which frame i is read: its amount rounded to f32
+unfoldable pub partAt : ℕ → ℕ → Float
+partAt i n = narrowed (amountAt i n)
+
+unfoldable pub levelAmplitudeBy : Level → Float → Amplitude
+levelAmplitudeBy l part = record { 0 = amplitude (interpolate binary32 (l .before .0) (l .now .0) part) }
+
 -- ---- what mixing asks of a chunk
 
 -- an amount in 0..1
 abbrev pub IsAmount : Float → Type 0
 IsAmount x = InUnit binary64 x
 
+-- such an amount rounded to f32
+pub record IsPart (part : Float) : Type 0 where
+  pub amount : Float
+  pub lies : IsAmount amount
+  pub rounded : part ≡ narrowed amount
+
+-- the parts of a chunk of n frames
+pub record IsParts (n : ℕ) (parts : List Float) : Type 0 where
+  pub long : length parts ≡ 256
+  pub part : (i : ℕ) → i < n → getD parts i nan ≡ partAt i n
+
 -- both values of a level lie in -97..19, so that what is read between them lies in -98..20
 pub record LevelInRange (l : Level) : Type 0 where
   pub before : ValueRange (l .before .0)
   pub now : ValueRange (l .now .0)
+
+-- the tables have as many places as their arrays
+pub record ChunkPlaces (c : Chunk) : Type 0 where
+  pub tracks : length (c .tracks) ≡ 32
+  pub sends : length (c .sends) ≡ 8
+  pub routes : length (c .routes) ≡ 64
+  pub sounds : length (c .sounds) ≡ 64
 
 pub record ChunkOk (c : Chunk) (samples : List Float) : Type 0 where
   pub short : c .frames ≤ 256
@@ -79,3 +117,4 @@ pub record ChunkOk (c : Chunk) (samples : List Float) : Type 0 where
   pub routed : (r : ℕ) → r < c .«route_count» → (1 ≤ routeLine c r .send) × (routeLine c r .send ≤ 8)
   -- what a sound has left lies within the samples
   pub held : (k : ℕ) → k < c .«sound_count» → 2 * (soundLine c k .start + soundLine c k .left) ≤ length samples
+  pub arrays : ChunkPlaces c

@@ -61,6 +61,10 @@ addedFrom from i a = added a (frameAt from i)
 unfoldable pub addedScaled : List Float → Amplitude → ℕ → Frame → Frame
 addedScaled from factor i a = added a (scaled (frameAt from i) factor)
 
+-- scaled by one factor
+unfoldable pub scaledBy : Amplitude → ℕ → Frame → Frame
+scaledBy factor i a = scaled a factor
+
 -- a step on n frames from `first` on; the others stay
 unfoldable pub placed : ℕ → ℕ → (ℕ → Frame → Frame) → ℕ → Frame → Frame
 placed first n f k a = cond (leb first k && ltb k (first + n)) (f (k - first) a) a

@@ -176,6 +176,17 @@ withFrames-further f (suc n) (suc m) (x ∷ y ∷ l) p h =
     let a : Frame = f 0 (record { left = x; right = y }) in
     ap (λ (r : List Float). a .left ∷ a .right ∷ r) (withFrames-further (λ j. f (suc j)) n m l (le-of-suc-le-suc p) (λ k q b. h (suc k) (suc-le-suc q) b))
 
+-- the first m frames by f, and then by a step that leaves those alone and is f from m on
+pub withFrames-rest : (f g : Step) (m n : ℕ) (l : List Float) → m ≤ n → ((k : ℕ) → k < m → (a : Frame) → g k a ≡ a) → ((k : ℕ) → m ≤ k → k < n → (a : Frame) → g k a ≡ f k a) → withFrames g n (withFrames f m l) ≡ withFrames f n l
+unfolding withFrames
+withFrames-rest f g zero n l p h r = withFrames-cong g f n l (λ k q _ a. r k zero-le q a)
+withFrames-rest f g (suc m) zero l p h r = absurd (not-suc-le-zero p)
+withFrames-rest f g (suc m) (suc n) [] p h r = refl
+withFrames-rest f g (suc m) (suc n) (x ∷ []) p h r = refl
+withFrames-rest f g (suc m) (suc n) (x ∷ y ∷ l) p h r =
+    ap₂ (λ (a : Frame) (r : List Float). a .left ∷ a .right ∷ r) (h 0 (zero-lt-suc m) (f 0 (record { left = x; right = y })))
+    (withFrames-rest (λ j. f (suc j)) (λ j. g (suc j)) m n l (le-of-suc-le-suc p) (λ k q a. h (suc k) (suc-le-suc q) a) (λ k q s a. r (suc k) (suc-le-suc q) (suc-le-suc s) a))
+
 -- ---- a loop whose turns are steps on a buffer is a loop at each frame
 
 pub downto-frames : (g : ℕ → Step) (m n : ℕ) (l : List Float) → downto (λ j r. withFrames (g j) n r) m l ≡ withFrames (λ i a. downto (λ j x. g j i x) m a) n l

@@ -4,6 +4,10 @@ pub mod FrameLaws
 pub mod TurnLaws
 pub mod Chunk
 pub mod ChunkLaws
+pub mod Flat
+pub mod FlatLaws
+pub mod Written
+pub mod FlattenLaws
 pub mod Sound
 pub mod Sub
 pub mod Send
@@ -11,3 +15,5 @@ pub mod SendLaws
 pub mod SubLaws
 pub mod Mix
 pub mod MixLaws
+pub mod SoundLaws
+pub mod SteadyLaws

@@ -3,7 +3,7 @@
 ghost use mathlib.Core.Path.{_≡_};
 ghost use Prim.Native.Nat.{_≤_, _<_};
 ghost use Rattle.gain_table.specs.GainTable.{IsGainTable};
-ghost use Rattle.track.specs.Chunk.{amountAt, levelAmplitude, LevelInRange, IsAmount};
+ghost use Rattle.track.specs.Chunk.{amountAt, isSteady, steadyAmplitude, levelAmplitudeBy, LevelInRange, IsPart, IsParts};
 use decibels::Amplitude;
 use decibels::Decibels;
 
@@ -50,15 +50,35 @@ pub struct Chunk {
 }
 
 impl Level {
-    pub fn amplitude_at(self, amount: f64, table: &[u64; 1345]) -> Amplitude
-        requires { ⌜ IsGainTable (now table) ⌝ }
-        requires { ⌜ LevelInRange self ⌝ }
-        requires { ⌜ IsAmount amount ⌝ }
-        ensures { λ r. ⌜ r ≡ levelAmplitude self amount ⌝ }
+    // Whether the level stands still in this chunk.
+    pub fn is_steady(self) -> bool
+        ensures { λ r. ⌜ r ≡ isSteady self ⌝ }
     {
         let before = self.before;
         let now = self.now;
-        tween::interpolate(before, now, amount).as_amplitude_in(table)
+        before.0 == now.0
+    }
+
+    // The one amplitude of a level that stands still.
+    pub fn steady_amplitude(self, table: &[u64; 1345]) -> Amplitude
+        requires { ⌜ IsGainTable (now table) ⌝ }
+        requires { ⌜ LevelInRange self ⌝ }
+        ensures { λ r. ⌜ r ≡ steadyAmplitude self ⌝ }
+    {
+        let now = self.now;
+        now.as_amplitude_in(table)
+    }
+
+    // At a part of the chunk, which is an amount rounded to f32.
+    pub fn amplitude_by(self, part: f32, table: &[u64; 1345]) -> Amplitude
+        requires { ⌜ IsGainTable (now table) ⌝ }
+        requires { ⌜ LevelInRange self ⌝ }
+        requires { ⌜ IsPart part ⌝ }
+        ensures { λ r. ⌜ r ≡ levelAmplitudeBy self part ⌝ }
+    {
+        let before = self.before;
+        let now = self.now;
+        Decibels(before.0 + (now.0 - before.0) * part).as_amplitude_in(table)
     }
 }
 
@@ -69,4 +89,18 @@ pub fn amount_at(i: usize, frames: usize) -> f64
     ensures { λ r. ⌜ r ≡ amountAt i frames ⌝ }
 {
     ((i + 1) as f64) / (frames as f64)
+}
+
+// The parts at which the frames of a chunk are read.
+pub fn parts_of(frames: usize) -> [f32; 256]
+    requires { ⌜ frames ≤ 256 ⌝ }
+    ensures { λ r. ⌜ IsParts frames r ⌝ }
+{
+    let mut parts = [0.0f32; 256];
+    let mut i = 0;
+    while i < frames {
+        parts[i] = number::f64_to_f32(amount_at(i, frames));
+        i += 1;
+    }
+    parts
 }

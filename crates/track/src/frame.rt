@@ -4,7 +4,7 @@ ghost use mathlib.Core.Path.{_≡_};
 ghost use Prim.Native.Nat.{ℕ, _+_, _*_, _≤_, _<_};
 ghost use lib.ListN.{length};
 ghost use lib.Ieee.{Float};
-ghost use Rattle.track.specs.Frame.{zeroFrame, added, scaled, clamp, clamped, frameAt, putFrame, withFrames, placed, addedFrom, addedScaled, cleared};
+ghost use Rattle.track.specs.Frame.{zeroFrame, added, scaled, clamp, clamped, frameAt, putFrame, withFrames, placed, addedFrom, addedScaled, scaledBy, cleared};
 use decibels::Amplitude;
 
 pub struct Frame {
@@ -117,6 +117,19 @@ pub fn add_scaled(to: &mut [f32], first: usize, from: &[f32], frames: usize, fac
     while i < frames {
         let sum = frame_at(to, first + i).added(frame_at(from, i).scaled(factor));
         put_frame(to, first + i, sum);
+        i += 1;
+    }
+}
+
+// Scales each frame by one factor.
+pub fn scale(out: &mut [f32], frames: usize, factor: Amplitude)
+    requires { ⌜ 2 * frames ≤ length (now out) ⌝ }
+    ensures { λ _. ⌜ now (out .exit) ≡ withFrames (scaledBy factor) frames (now (out .entry)) ⌝ }
+{
+    let mut i = 0;
+    while i < frames {
+        let frame = frame_at(out, i).scaled(factor);
+        put_frame(out, i, frame);
         i += 1;
     }
 }

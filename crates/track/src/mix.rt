@@ -4,10 +4,19 @@ ghost use Prim.Native.Nat.{_*_, _≤_};
 ghost use lib.ListN.{length};
 ghost use Rattle.gain_table.specs.GainTable.{IsGainTable};
 ghost use Rattle.track.specs.Frame.{withFrames};
-ghost use Rattle.track.specs.Chunk.{ChunkOk};
+ghost use Rattle.track.specs.Chunk.{ChunkOk, IsParts};
+ghost use Rattle.track.specs.Flat.{chunkFrom};
 ghost use Rattle.track.specs.Sub.{sendFrames};
 ghost use Rattle.track.specs.Mix.{mixedSet, tracksSet, withAllSends, withSendTracks};
 use crate::chunk::Chunk;
+use crate::chunk::parts_of;
+use crate::flat::FRAMES;
+use crate::flat::SEND_COUNT;
+use crate::flat::TRACK_COUNT;
+use crate::flat::flatten;
+use crate::flat::main_level;
+use crate::flat::send_at;
+use crate::flat::track_at;
 use crate::frame::add_frames;
 use crate::frame::clear;
 use crate::send::add_send;
@@ -21,27 +30,40 @@ const LEVELS: usize = 4;
 
 // Sets `out` to the sum of the tracks right under the mixer, latest line first.
 fn process_tracks(
-    chunk: Chunk,
+    places: &[usize; 389],
+    values: &[f32; 210],
+    parts: &[f32; 256],
     table: &[u64; 1345],
     samples: &[f32],
     out: &mut [f32],
     sends: &mut [f32],
 )
     requires { ⌜ IsGainTable (now table) ⌝ }
-    requires { ⌜ ChunkOk chunk (now samples) ⌝ }
-    requires { ⌜ 2 * chunk .frames ≤ length (now out) ⌝ }
+    requires { ⌜ ChunkOk (chunkFrom (now places) (now values)) (now samples) ⌝ }
+    requires { ⌜ IsParts (chunkFrom (now places) (now values) .frames) (now parts) ⌝ }
+    requires { ⌜ 2 * chunkFrom (now places) (now values) .frames ≤ length (now out) ⌝ }
     requires { ⌜ length (now sends) ≡ 2 * sendFrames ⌝ }
-    ensures frames { λ _. ⌜ now (out .exit) ≡ withFrames (tracksSet chunk (now (samples .entry))) (chunk .frames) (now (out .entry)) ⌝ }
-    ensures sends { λ _. ⌜ now (sends .exit) ≡ withFrames (withAllSends chunk (now (samples .entry))) sendFrames (now (sends .entry)) ⌝ }
+    ensures frames { λ _. ⌜ now (out .exit) ≡ withFrames (tracksSet (chunkFrom (now (places .entry)) (now (values .entry))) (now (samples .entry))) (chunkFrom (now (places .entry)) (now (values .entry)) .frames) (now (out .entry)) ⌝ }
+    ensures sends { λ _. ⌜ now (sends .exit) ≡ withFrames (withAllSends (chunkFrom (now (places .entry)) (now (values .entry))) (now (samples .entry))) sendFrames (now (sends .entry)) ⌝ }
 {
-    let frames = chunk.frames;
+    let frames = places[FRAMES];
     clear(out, frames);
-    let mut j = chunk.track_count;
+    let mut j = places[TRACK_COUNT];
     while 0 < j {
-        let track = chunk.tracks[j - 1];
+        let track = track_at(places, values, j - 1);
         if track.parent == 0 {
             let mut temp = [0.0f32; 512];
-            sub::process(chunk, table, samples, j, LEVELS, &mut temp, sends);
+            sub::process(
+                places,
+                values,
+                parts,
+                table,
+                samples,
+                j,
+                LEVELS,
+                &mut temp,
+                sends,
+            );
             add_frames(out, &temp, frames);
         }
         j -= 1;
@@ -49,36 +71,68 @@ fn process_tracks(
 }
 
 // Adds the send tracks' scaled frames, latest line first.
-fn add_sends(chunk: Chunk, table: &[u64; 1345], samples: &[f32], sends: &[f32], out: &mut [f32])
+fn add_sends(
+    places: &[usize; 389],
+    values: &[f32; 210],
+    parts: &[f32; 256],
+    table: &[u64; 1345],
+    samples: &[f32],
+    sends: &[f32],
+    out: &mut [f32],
+)
     requires { ⌜ IsGainTable (now table) ⌝ }
-    requires { ⌜ ChunkOk chunk (now samples) ⌝ }
-    requires { ⌜ 2 * chunk .frames ≤ length (now out) ⌝ }
+    requires { ⌜ ChunkOk (chunkFrom (now places) (now values)) (now samples) ⌝ }
+    requires { ⌜ IsParts (chunkFrom (now places) (now values) .frames) (now parts) ⌝ }
+    requires { ⌜ 2 * chunkFrom (now places) (now values) .frames ≤ length (now out) ⌝ }
     requires { ⌜ length (now sends) ≡ 2 * sendFrames ⌝ }
-    ensures { λ _. ⌜ now (out .exit) ≡ withFrames (withSendTracks chunk (now (sends .entry))) (chunk .frames) (now (out .entry)) ⌝ }
+    ensures { λ _. ⌜ now (out .exit) ≡ withFrames (withSendTracks (chunkFrom (now (places .entry)) (now (values .entry))) (now (sends .entry))) (chunkFrom (now (places .entry)) (now (values .entry)) .frames) (now (out .entry)) ⌝ }
 {
-    let frames = chunk.frames;
-    let mut s = chunk.send_count;
+    let frames = places[FRAMES];
+    let mut s = places[SEND_COUNT];
     while 0 < s {
         s -= 1;
-        let level = chunk.sends[s];
+        let level = send_at(places, values, s);
         let first = s * WIDTH;
-        add_send(out, sends, first, level, frames, table);
+        add_send(out, sends, first, level, frames, parts, table);
     }
 }
 
 // Sets `out` to the mix of the chunk: tracks, then send tracks, then the main track's sounds, and the
 // main volume.
+pub fn process_flat(
+    places: &[usize; 389],
+    values: &[f32; 210],
+    parts: &[f32; 256],
+    table: &[u64; 1345],
+    samples: &[f32],
+    out: &mut [f32],
+)
+    requires { ⌜ IsGainTable (now table) ⌝ }
+    requires { ⌜ ChunkOk (chunkFrom (now places) (now values)) (now samples) ⌝ }
+    requires { ⌜ IsParts (chunkFrom (now places) (now values) .frames) (now parts) ⌝ }
+    requires { ⌜ 2 * chunkFrom (now places) (now values) .frames ≤ length (now out) ⌝ }
+    ensures { λ _. ⌜ now (out .exit) ≡ withFrames (mixedSet (chunkFrom (now (places .entry)) (now (values .entry))) (now (samples .entry))) (chunkFrom (now (places .entry)) (now (values .entry)) .frames) (now (out .entry)) ⌝ }
+{
+    let mut sends = [0.0f32; 4096];
+    let frames = places[FRAMES];
+    process_tracks(places, values, parts, table, samples, out, &mut sends);
+    add_sends(places, values, parts, table, samples, &sends, out);
+    add_sounds(out, samples, places, values, 0);
+    let main = main_level(places, values);
+    apply_level(out, main, frames, parts, table);
+}
+
+// The same of a chunk whose tables are not laid out yet.
 pub fn process(chunk: Chunk, table: &[u64; 1345], samples: &[f32], out: &mut [f32])
     requires { ⌜ IsGainTable (now table) ⌝ }
     requires { ⌜ ChunkOk chunk (now samples) ⌝ }
     requires { ⌜ 2 * chunk .frames ≤ length (now out) ⌝ }
     ensures { λ _. ⌜ now (out .exit) ≡ withFrames (mixedSet chunk (now (samples .entry))) (chunk .frames) (now (out .entry)) ⌝ }
 {
-    let mut sends = [0.0f32; 4096];
+    let mut places = [0usize; 389];
+    let mut values = [0.0f32; 210];
+    flatten(chunk, &mut places, &mut values);
     let frames = chunk.frames;
-    process_tracks(chunk, table, samples, out, &mut sends);
-    add_sends(chunk, table, samples, &sends, out);
-    add_sounds(out, samples, chunk, 0);
-    let main = chunk.main;
-    apply_level(out, main, frames, table);
+    let parts = parts_of(frames);
+    process_flat(&places, &values, &parts, table, samples, out);
 }

@@ -1,36 +1,49 @@
 // kira's track/send.rs: a send track's frames, and the scaling by one level that it shares with the
 // main track.
 ghost use mathlib.Core.Path.{_≡_};
+ghost use mathlib.Core.Bool.{true};
 ghost use Prim.Native.Nat.{_+_, _*_, _≤_};
 ghost use lib.ListN.{length};
 ghost use Rattle.gain_table.specs.GainTable.{IsGainTable};
 ghost use Rattle.track.specs.Frame.{withFrames};
-ghost use Rattle.track.specs.Chunk.{LevelInRange};
+ghost use Rattle.track.specs.Chunk.{isSteady, LevelInRange, IsParts};
 ghost use Rattle.track.specs.Send.{levelScaled, withSend};
 use crate::chunk::Level;
-use crate::chunk::amount_at;
 use crate::frame::Frame;
 use crate::frame::frame_at;
 use crate::frame::put_frame;
+use crate::frame::scale;
 
 // Scales each frame by one level.
-pub fn apply_level(out: &mut [f32], level: Level, frames: usize, table: &[u64; 1345])
+pub fn apply_level(
+    out: &mut [f32],
+    level: Level,
+    frames: usize,
+    parts: &[f32; 256],
+    table: &[u64; 1345],
+)
     requires { ⌜ IsGainTable (now table) ⌝ }
     requires { ⌜ (frames ≤ 256) × (2 * frames ≤ length (now out)) ⌝ }
     requires { ⌜ LevelInRange level ⌝ }
+    requires { ⌜ IsParts frames (now parts) ⌝ }
     ensures { λ _. ⌜ now (out .exit) ≡ withFrames (levelScaled level frames) frames (now (out .entry)) ⌝ }
 {
+    if level.is_steady() {
+        let factor = level.steady_amplitude(table);
+        scale(out, frames, factor);
+        return;
+    }
     let mut i = 0;
     while i < frames {
-        let amount = amount_at(i, frames);
-        let frame = frame_at(out, i).scaled(level.amplitude_at(amount, table));
+        let factor = level.amplitude_by(parts[i], table);
+        let frame = frame_at(out, i).scaled(factor);
         put_frame(out, i, frame);
         i += 1;
     }
 }
 
-// Adds a send track's scaled frames onto the mix. Its input stands in `inputs` from frame `first` on.
-pub fn add_send(
+// `add_send` for a level that stands still.
+fn add_steady_send(
     out: &mut [f32],
     inputs: &[f32],
     first: usize,
@@ -42,13 +55,45 @@ pub fn add_send(
     requires { ⌜ (frames ≤ 256) × (2 * frames ≤ length (now out)) ⌝ }
     requires { ⌜ 2 * (first + frames) ≤ length (now inputs) ⌝ }
     requires { ⌜ LevelInRange level ⌝ }
+    requires { ⌜ isSteady level ≡ true ⌝ }
     ensures { λ _. ⌜ now (out .exit) ≡ withFrames (withSend level frames (now (inputs .entry)) first) frames (now (out .entry)) ⌝ }
 {
+    let factor = level.steady_amplitude(table);
     let mut i = 0;
     while i < frames {
-        let amount = amount_at(i, frames);
         let input = Frame::zero().added(frame_at(inputs, first + i));
-        let frame = input.scaled(level.amplitude_at(amount, table));
+        let frame = input.scaled(factor);
+        put_frame(out, i, frame_at(out, i).added(frame));
+        i += 1;
+    }
+}
+
+// Adds a send track's scaled frames onto the mix. Its input stands in `inputs` from frame `first` on.
+pub fn add_send(
+    out: &mut [f32],
+    inputs: &[f32],
+    first: usize,
+    level: Level,
+    frames: usize,
+    parts: &[f32; 256],
+    table: &[u64; 1345],
+)
+    requires { ⌜ IsGainTable (now table) ⌝ }
+    requires { ⌜ (frames ≤ 256) × (2 * frames ≤ length (now out)) ⌝ }
+    requires { ⌜ 2 * (first + frames) ≤ length (now inputs) ⌝ }
+    requires { ⌜ LevelInRange level ⌝ }
+    requires { ⌜ IsParts frames (now parts) ⌝ }
+    ensures { λ _. ⌜ now (out .exit) ≡ withFrames (withSend level frames (now (inputs .entry)) first) frames (now (out .entry)) ⌝ }
+{
+    if level.is_steady() {
+        add_steady_send(out, inputs, first, level, frames, table);
+        return;
+    }
+    let mut i = 0;
+    while i < frames {
+        let factor = level.amplitude_by(parts[i], table);
+        let input = Frame::zero().added(frame_at(inputs, first + i));
+        let frame = input.scaled(factor);
         put_frame(out, i, frame_at(out, i).added(frame));
         i += 1;
     }

@@ -1,27 +1,47 @@
 // A sound: frames of the sample buffer in turn, then zeros. Its frames are added from the sample
 // buffer straight onto the sum.
 ghost use mathlib.Core.Path.{_≡_};
-ghost use Prim.Native.Nat.{_+_, _*_, _≤_};
+ghost use Prim.Native.Nat.{_+_, _-_, _*_, _≤_};
 ghost use lib.ListN.{length};
-ghost use Rattle.track.specs.Frame.{withFrames};
+ghost use Rattle.track.specs.Frame.{withFrames, placed};
 ghost use Rattle.track.specs.Chunk.{ChunkOk};
-ghost use Rattle.track.specs.Sound.{soundFrame, addedSound, withSounds};
-use crate::chunk::Chunk;
+ghost use Rattle.track.specs.Flat.{chunkFrom};
+ghost use Rattle.track.specs.Sound.{addedSound, addedZero, withSounds};
 use crate::chunk::ChunkSound;
+use crate::flat::FRAMES;
+use crate::flat::SOUND_COUNT;
+use crate::flat::sound_at;
 use crate::frame::Frame;
 use crate::frame::frame_at;
 use crate::frame::put_frame;
 
-// What the sound plays at frame i of the chunk.
-fn sound_frame(samples: &[f32], sound: ChunkSound, i: usize) -> Frame
+// Adds frames that the sound still has.
+fn add_played(to: &mut [f32], samples: &[f32], sound: ChunkSound, frames: usize)
+    requires { ⌜ 2 * frames ≤ length (now to) ⌝ }
     requires { ⌜ 2 * (sound .start + sound .left) ≤ length (now samples) ⌝ }
-    ensures { λ r. ⌜ r ≡ soundFrame (now (samples .entry)) sound i ⌝ }
+    requires { ⌜ frames ≤ sound .left ⌝ }
+    ensures { λ _. ⌜ now (to .exit) ≡ withFrames (addedSound (now (samples .entry)) sound) frames (now (to .entry)) ⌝ }
 {
-    if i < sound.left {
-        let start = sound.start;
-        frame_at(samples, start + i)
-    } else {
-        Frame::zero()
+    let start = sound.start;
+    let mut i = 0;
+    while i < frames {
+        let sum = frame_at(to, i).added(frame_at(samples, start + i));
+        put_frame(to, i, sum);
+        i += 1;
+    }
+}
+
+// Adds zeros from frame `first` on.
+fn add_silence(to: &mut [f32], first: usize, frames: usize)
+    requires { ⌜ 2 * frames ≤ length (now to) ⌝ }
+    requires { ⌜ first ≤ frames ⌝ }
+    ensures { λ _. ⌜ now (to .exit) ≡ withFrames (placed first (frames - first) addedZero) frames (now (to .entry)) ⌝ }
+{
+    let mut i = first;
+    while i < frames {
+        let sum = frame_at(to, i).added(Frame::zero());
+        put_frame(to, i, sum);
+        i += 1;
     }
 }
 
@@ -31,25 +51,32 @@ fn add_sound(to: &mut [f32], samples: &[f32], sound: ChunkSound, frames: usize)
     requires { ⌜ 2 * (sound .start + sound .left) ≤ length (now samples) ⌝ }
     ensures { λ _. ⌜ now (to .exit) ≡ withFrames (addedSound (now (samples .entry)) sound) frames (now (to .entry)) ⌝ }
 {
-    let mut i = 0;
-    while i < frames {
-        let sum = frame_at(to, i).added(sound_frame(samples, sound, i));
-        put_frame(to, i, sum);
-        i += 1;
+    let left = sound.left;
+    if frames <= left {
+        add_played(to, samples, sound, frames);
+        return;
     }
+    add_played(to, samples, sound, left);
+    add_silence(to, left, frames);
 }
 
 // Adds the sounds of a track, latest line first. Track 0 is the main track.
-pub fn add_sounds(to: &mut [f32], samples: &[f32], chunk: Chunk, line: usize)
-    requires { ⌜ ChunkOk chunk (now samples) ⌝ }
-    requires { ⌜ 2 * chunk .frames ≤ length (now to) ⌝ }
-    ensures { λ _. ⌜ now (to .exit) ≡ withFrames (withSounds chunk (now (samples .entry)) line) (chunk .frames) (now (to .entry)) ⌝ }
+pub fn add_sounds(
+    to: &mut [f32],
+    samples: &[f32],
+    places: &[usize; 389],
+    values: &[f32; 210],
+    line: usize,
+)
+    requires { ⌜ ChunkOk (chunkFrom (now places) (now values)) (now samples) ⌝ }
+    requires { ⌜ 2 * chunkFrom (now places) (now values) .frames ≤ length (now to) ⌝ }
+    ensures { λ _. ⌜ now (to .exit) ≡ withFrames (withSounds (chunkFrom (now (places .entry)) (now (values .entry))) (now (samples .entry)) line) (chunkFrom (now (places .entry)) (now (values .entry)) .frames) (now (to .entry)) ⌝ }
 {
-    let frames = chunk.frames;
-    let mut k = chunk.sound_count;
+    let frames = places[FRAMES];
+    let mut k = places[SOUND_COUNT];
     while 0 < k {
         k -= 1;
-        let sound = chunk.sounds[k];
+        let sound = sound_at(places, values, k);
         if sound.track == line {
             add_sound(to, samples, sound, frames);
         }

@@ -1,19 +1,25 @@
 // kira's track/sub.rs: a track's frames, and what it and the tracks below it add to the send tracks.
 ghost use mathlib.Core.Path.{_≡_};
+ghost use mathlib.Core.Bool.{true};
 ghost use Prim.Native.Nat.{_+_, _*_, _≤_, _<_};
 ghost use lib.ListN.{length};
 ghost use Rattle.gain_table.specs.GainTable.{IsGainTable};
 ghost use Rattle.track.specs.Frame.{withFrames};
-ghost use Rattle.track.specs.Chunk.{ChunkOk, LevelInRange};
+ghost use Rattle.track.specs.Chunk.{ChunkOk, isSteady, LevelInRange, IsParts};
+ghost use Rattle.track.specs.Flat.{chunkFrom};
 ghost use Rattle.track.specs.Sub.{trackScaled, trackSet, withRoutesFrom, withSendsOf, sendFrames};
-use crate::chunk::Chunk;
 use crate::chunk::ChunkTrack;
-use crate::chunk::amount_at;
+use crate::flat::FRAMES;
+use crate::flat::ROUTE_COUNT;
+use crate::flat::TRACK_COUNT;
+use crate::flat::route_at;
+use crate::flat::track_at;
 use crate::frame::add_frames;
 use crate::frame::add_scaled;
 use crate::frame::clear;
 use crate::frame::frame_at;
 use crate::frame::put_frame;
+use crate::frame::scale;
 use crate::sound::add_sounds;
 use decibels::Amplitude;
 
@@ -21,37 +27,107 @@ use decibels::Amplitude;
 // (s - 1) * WIDTH on.
 pub const WIDTH: usize = 256;
 
-// Volume times fade scales each frame.
-fn apply_volume(out: &mut [f32], track: ChunkTrack, frames: usize, table: &[u64; 1345])
+// `apply_volume` for a fade that stands still.
+fn apply_moving_volume(
+    out: &mut [f32],
+    track: ChunkTrack,
+    frames: usize,
+    parts: &[f32; 256],
+    table: &[u64; 1345],
+)
     requires { ⌜ IsGainTable (now table) ⌝ }
     requires { ⌜ (frames ≤ 256) × (2 * frames ≤ length (now out)) ⌝ }
     requires { ⌜ LevelInRange (track .volume) × LevelInRange (track .fade) ⌝ }
+    requires { ⌜ IsParts frames (now parts) ⌝ }
+    requires { ⌜ isSteady (track .fade) ≡ true ⌝ }
+    ensures { λ _. ⌜ now (out .exit) ≡ withFrames (trackScaled track frames) frames (now (out .entry)) ⌝ }
+{
+    let volume = track.volume;
+    let fade = track.fade;
+    let by = fade.steady_amplitude(table);
+    let mut i = 0;
+    while i < frames {
+        let a = volume.amplitude_by(parts[i], table);
+        let frame = frame_at(out, i).scaled(Amplitude(a.0 * by.0));
+        put_frame(out, i, frame);
+        i += 1;
+    }
+}
+
+// `apply_volume` where both may move.
+fn apply_moving(
+    out: &mut [f32],
+    track: ChunkTrack,
+    frames: usize,
+    parts: &[f32; 256],
+    table: &[u64; 1345],
+)
+    requires { ⌜ IsGainTable (now table) ⌝ }
+    requires { ⌜ (frames ≤ 256) × (2 * frames ≤ length (now out)) ⌝ }
+    requires { ⌜ LevelInRange (track .volume) × LevelInRange (track .fade) ⌝ }
+    requires { ⌜ IsParts frames (now parts) ⌝ }
     ensures { λ _. ⌜ now (out .exit) ≡ withFrames (trackScaled track frames) frames (now (out .entry)) ⌝ }
 {
     let volume = track.volume;
     let fade = track.fade;
     let mut i = 0;
     while i < frames {
-        let amount = amount_at(i, frames);
-        let a = volume.amplitude_at(amount, table);
-        let b = fade.amplitude_at(amount, table);
+        let part = parts[i];
+        let a = volume.amplitude_by(part, table);
+        let b = fade.amplitude_by(part, table);
         let frame = frame_at(out, i).scaled(Amplitude(a.0 * b.0));
         put_frame(out, i, frame);
         i += 1;
     }
 }
 
-// Adds the scaled frames to the send tracks that the track is routed to.
-fn add_routes(sends: &mut [f32], out: &[f32], chunk: Chunk, samples: &[f32], line: usize)
-    requires { ⌜ ChunkOk chunk (now samples) ⌝ }
-    requires { ⌜ 2 * chunk .frames ≤ length (now out) ⌝ }
-    requires { ⌜ length (now sends) ≡ 2 * sendFrames ⌝ }
-    ensures { λ _. ⌜ now (sends .exit) ≡ withFrames (withRoutesFrom chunk line (now (out .entry))) sendFrames (now (sends .entry)) ⌝ }
+// Volume times fade scales each frame.
+fn apply_volume(
+    out: &mut [f32],
+    track: ChunkTrack,
+    frames: usize,
+    parts: &[f32; 256],
+    table: &[u64; 1345],
+)
+    requires { ⌜ IsGainTable (now table) ⌝ }
+    requires { ⌜ (frames ≤ 256) × (2 * frames ≤ length (now out)) ⌝ }
+    requires { ⌜ LevelInRange (track .volume) × LevelInRange (track .fade) ⌝ }
+    requires { ⌜ IsParts frames (now parts) ⌝ }
+    ensures { λ _. ⌜ now (out .exit) ≡ withFrames (trackScaled track frames) frames (now (out .entry)) ⌝ }
 {
-    let frames = chunk.frames;
+    let volume = track.volume;
+    let fade = track.fade;
+    if fade.is_steady() {
+        if volume.is_steady() {
+            let a = volume.steady_amplitude(table);
+            let b = fade.steady_amplitude(table);
+            scale(out, frames, Amplitude(a.0 * b.0));
+            return;
+        }
+        apply_moving_volume(out, track, frames, parts, table);
+        return;
+    }
+    apply_moving(out, track, frames, parts, table);
+}
+
+// Adds the scaled frames to the send tracks that the track is routed to.
+fn add_routes(
+    sends: &mut [f32],
+    out: &[f32],
+    places: &[usize; 389],
+    values: &[f32; 210],
+    samples: &[f32],
+    line: usize,
+)
+    requires { ⌜ ChunkOk (chunkFrom (now places) (now values)) (now samples) ⌝ }
+    requires { ⌜ 2 * chunkFrom (now places) (now values) .frames ≤ length (now out) ⌝ }
+    requires { ⌜ length (now sends) ≡ 2 * sendFrames ⌝ }
+    ensures { λ _. ⌜ now (sends .exit) ≡ withFrames (withRoutesFrom (chunkFrom (now (places .entry)) (now (values .entry))) line (now (out .entry))) sendFrames (now (sends .entry)) ⌝ }
+{
+    let frames = places[FRAMES];
     let mut r = 0;
-    while r < chunk.route_count {
-        let route = chunk.routes[r];
+    while r < places[ROUTE_COUNT] {
+        let route = route_at(places, values, r);
         if route.track == line {
             let first = (route.send - 1) * WIDTH;
             let amplitude = route.amplitude;
@@ -64,7 +140,9 @@ fn add_routes(sends: &mut [f32], out: &[f32], chunk: Chunk, samples: &[f32], lin
 // Sets `out` to the frames of track `line`, counted from 1, and adds to the send tracks what it and
 // the tracks below it send. `depth` is how many levels of tracks are left.
 pub fn process(
-    chunk: Chunk,
+    places: &[usize; 389],
+    values: &[f32; 210],
+    parts: &[f32; 256],
     table: &[u64; 1345],
     samples: &[f32],
     line: usize,
@@ -73,33 +151,44 @@ pub fn process(
     sends: &mut [f32],
 )
     requires { ⌜ IsGainTable (now table) ⌝ }
-    requires { ⌜ ChunkOk chunk (now samples) ⌝ }
-    requires { ⌜ (1 ≤ line) × (line ≤ chunk .«track_count») ⌝ }
-    requires { ⌜ 2 * chunk .frames ≤ length (now out) ⌝ }
+    requires { ⌜ ChunkOk (chunkFrom (now places) (now values)) (now samples) ⌝ }
+    requires { ⌜ IsParts (chunkFrom (now places) (now values) .frames) (now parts) ⌝ }
+    requires { ⌜ (1 ≤ line) × (line ≤ chunkFrom (now places) (now values) .«track_count») ⌝ }
+    requires { ⌜ 2 * chunkFrom (now places) (now values) .frames ≤ length (now out) ⌝ }
     requires { ⌜ length (now sends) ≡ 2 * sendFrames ⌝ }
-    ensures frames { λ _. ⌜ now (out .exit) ≡ withFrames (trackSet depth chunk (now (samples .entry)) line) (chunk .frames) (now (out .entry)) ⌝ }
-    ensures sends { λ _. ⌜ now (sends .exit) ≡ withFrames (withSendsOf depth chunk (now (samples .entry)) line) sendFrames (now (sends .entry)) ⌝ }
+    ensures frames { λ _. ⌜ now (out .exit) ≡ withFrames (trackSet depth (chunkFrom (now (places .entry)) (now (values .entry))) (now (samples .entry)) line) (chunkFrom (now (places .entry)) (now (values .entry)) .frames) (now (out .entry)) ⌝ }
+    ensures sends { λ _. ⌜ now (sends .exit) ≡ withFrames (withSendsOf depth (chunkFrom (now (places .entry)) (now (values .entry))) (now (samples .entry)) line) sendFrames (now (sends .entry)) ⌝ }
 {
-    let frames = chunk.frames;
+    let frames = places[FRAMES];
     clear(out, frames);
-    let track = chunk.tracks[line - 1];
+    let track = track_at(places, values, line - 1);
     if depth == 0 {
         return;
     }
     if !track.advancing {
         return;
     }
-    let mut j = chunk.track_count;
+    let mut j = places[TRACK_COUNT];
     while 0 < j {
-        let below = chunk.tracks[j - 1];
+        let below = track_at(places, values, j - 1);
         if below.parent == line {
             let mut temp = [0.0f32; 512];
-            process(chunk, table, samples, j, depth - 1, &mut temp, sends);
+            process(
+                places,
+                values,
+                parts,
+                table,
+                samples,
+                j,
+                depth - 1,
+                &mut temp,
+                sends,
+            );
             add_frames(out, &temp, frames);
         }
         j -= 1;
     }
-    add_sounds(out, samples, chunk, line);
-    apply_volume(out, track, frames, table);
-    add_routes(sends, out, chunk, samples, line);
+    add_sounds(out, samples, places, values, line);
+    apply_volume(out, track, frames, parts, table);
+    add_routes(sends, out, places, values, samples, line);
 }

@@ -1,15 +1,18 @@
 use mathlib.Core.Path.{_≡_, refl, sym, ap, _∙_}
 use mathlib.Core.Logic.{⊎-elim}
 use mathlib.Core.List.{List}
-use Prim.Native.Nat.{ℕ, _+_, _-_, _*_, _≤_}
+use Prim.Native.Nat.{ℕ, _-_, _≤_}
 use native.Mathlib.Nat.{le-refl}
 use native.Mathlib.Omega.{arith}
 use lib.ListN.{length, replicate, length-replicate}
 use lib.Ieee.{Float, binary32, ofBits}
 use borrow.Author.Needs.{needs}
 use Rattle.laws.specs.Loop.{downto}
+use Rattle.track.specs.declared.chunk.Chunk.{Chunk}
+use Rattle.track.specs.declared.chunk.ChunkTrack.{ChunkTrack}
 use Rattle.track.specs.Frame.{withFrames, cleared}
-use Rattle.track.specs.Sub.{sendFrames, trackSet, withSendsOf}
+use Rattle.track.specs.Flat.{chunkFrom}
+use Rattle.track.specs.Sub.{sendFrames, trackSet}
 use Rattle.track.specs.Mix.{levels}
 use Rattle.track.specs.FrameLaws.{kept}
 use Rattle.track.specs.TurnLaws.{turns, turn-length, down-turn, down-done}
@@ -19,6 +22,7 @@ use Rattle.track.proofs.mix.process_tracks.Statement.{statement}
 use Rattle.track.proofs.mix.process_tracks.Tie as tie
 use Rattle.track.proofs.mix.process_tracks.Reads as reads
 use Rattle.track.proofs.mix.process_tracks.Lts as lts
+use Rattle.track.proofs.flat.track_at.Reads as track-at-reads
 use Rattle.track.proofs.frame.add_frames.Reads as add-frames-reads
 use Rattle.track.proofs.frame.clear.Reads as clear-reads
 use Rattle.track.proofs.sub.process.Reads as process-reads
@@ -27,89 +31,100 @@ use Rattle.track.proofs.sub.process.Reads as process-reads
 abbrev silent : List Float
 silent = replicate 512 (ofBits binary32 0)
 
+abbrev Inv : Chunk → List Float → List Float → List Float → List Float → List Float → ℕ → Type 0
+Inv chunk samples out₀ sends₀ out sends j = (j ≤ chunk .«track_count») × (length out ≡ length out₀) × (length sends ≡ length sends₀) × (downto (turns (subStep levels chunk samples 0) (chunk .frames)) j out ≡ downto (turns (subStep levels chunk samples 0) (chunk .frames)) (chunk .«track_count») out₀) × (downto (turns (subSend levels chunk samples 0) sendFrames) j sends ≡ downto (turns (subSend levels chunk samples 0) sendFrames) (chunk .«track_count») sends₀)
+
 abbrev Inv-loop : tie.InvT-loop
-Inv-loop table samples out₀ sends₀ chunk frames j₀ out sends j = (j ≤ chunk .«track_count») × (length out ≡ length out₀) × (length sends ≡ length sends₀) × (downto (turns (subStep levels chunk samples 0) (chunk .frames)) j out ≡ downto (turns (subStep levels chunk samples 0) (chunk .frames)) (chunk .«track_count») out₀) × (downto (turns (subSend levels chunk samples 0) sendFrames) j sends ≡ downto (turns (subSend levels chunk samples 0) sendFrames) (chunk .«track_count») sends₀)
+Inv-loop places values parts table samples out₀ sends₀ frames j₀ out sends j = Inv (chunkFrom places values) samples out₀ sends₀ out sends j
 
 abbrev μ-loop : tie.MeasureT-loop
-μ-loop table samples out₀ sends₀ chunk frames j₀ out sends j = j
+μ-loop places values parts table samples out₀ sends₀ frames j₀ out sends j = j
 
--- src/mix.rt:32:5
+-- src/mix.rt:49:18
+element-copy-out-frames : tie.Need-element-copy-out-frames Inv-loop μ-loop
+element-copy-out-frames c = search needs
+
+-- src/mix.rt:50:5
 clear-requires : tie.Need-clear-requires Inv-loop μ-loop
 clear-requires c κs = search needs
 
--- src/mix.rt:34:5
+-- src/mix.rt:51:17
+element-copy-out-j : tie.Need-element-copy-out-j Inv-loop μ-loop
+element-copy-out-j c = search needs
+
+-- src/mix.rt:52:5
 loop-holds : tie.Need-loop-holds Inv-loop μ-loop
 loop-holds c = (le-refl _, refl, refl, refl, refl)
 
--- src/mix.rt:35:34
-sub-track : tie.Need-sub-track Inv-loop μ-loop
-sub-track c = search needs
+-- src/mix.rt:53:46
+sub-track-at : tie.Need-sub-track-at Inv-loop μ-loop
+sub-track-at c = search needs
 
--- src/mix.rt:35:21
-mul-track : tie.Need-mul-track Inv-loop μ-loop
-mul-track c = search needs
+-- src/mix.rt:53:13
+track-at-requires : tie.Need-track-at-requires Inv-loop μ-loop
+track-at-requires c κs = omega (arith, c .loop-test .taken, c .before .loop .inv .0, c .before .before .before .before .before .before .before .before .before .before .before .pre .1 .0 .tracks)
 
--- src/mix.rt:35:21
-element-copy-out-track : tie.Need-element-copy-out-track Inv-loop μ-loop
-element-copy-out-track c = omega (arith, c .loop-test .taken, c .before .loop .inv .0, c .before .before .before .before .before .before .before .before .before .pre .1 .0 .tracks)
-
--- src/mix.rt:38:60
+-- src/mix.rt:56:76
 slice-aggregate-process : tie.Need-slice-aggregate-process Inv-loop μ-loop
 slice-aggregate-process c = search needs
 
--- src/mix.rt:38:13
+-- src/mix.rt:56:13
 process-requires : tie.Need-process-requires Inv-loop μ-loop
 process-requires c κs =
-    let start = c .before .before .before .before .before .before .before .before .before .before .before .before .before .before in
+    let start = c .before .before .before .before .before .before .before .before .before .before .before .before .before .before .before .before in
     let ok = start .pre .1 .0 in
     let l = c .before .before .before .before .before .before in
-    (start .pre .0, (ok, ((c .before .before .before .before .before .loop-test .taken, l .loop .inv .0), (omega (arith, ok .short), l .loop .inv .2 ∙ start .pre .1 .1 .1))))
+    (start .pre .0, (ok, (start .pre .1 .1 .0, ((c .before .before .before .before .before .loop-test .taken, l .loop .inv .0), (omega (arith, ok .short), l .loop .inv .2 ∙ start .pre .1 .1 .1 .1)))))
 
--- src/mix.rt:39:29
+-- src/mix.rt:57:29
 slice-aggregate-add-frames : tie.Need-slice-aggregate-add-frames Inv-loop μ-loop
 slice-aggregate-add-frames c = search needs
 
--- src/mix.rt:39:13
+-- src/mix.rt:57:13
 add-frames-requires : tie.Need-add-frames-requires Inv-loop μ-loop
 add-frames-requires c κs =
-    let start = c .before .before .before .before .before .before .before .before .before .before .before .before .before .before .before .before .before .before .before .before in
+    let start = c .before .before .before .before .before .before .before .before .before .before .before .before .before .before .before .before .before .before .before .before .before .before in
     let args = start .args in
+    let chunk = chunkFrom (args .places .now) (args .values .now) in
+    let samples = args .samples .now in
     let ok = start .pre .1 .0 in
-    let l = c .before .before .before .before .before .before .before .before .before .before .before .before in (
-      omega (arith, l .loop .inv .1, start .pre .1 .1 .0, kept cleared (args .t1 .frames) (args .out .now) (c .before .before .before .before .before .before .before .before .before .before .before .before .before .before .before .clear .ensures)),
-      omega (arith, ok .short, kept (trackSet levels (args .t1) (args .samples .now) (l .loop .j)) (args .t1 .frames) silent (c .before .before .before .before .before .process .ensures .0) ∙ length-replicate 512 (ofBits binary32 0)),
-    )
+    let l = c .before .before .before .before .before .before .before .before .before .before .before .before in
+    let cleared-length = kept cleared (chunk .frames) (args .out .now) (c .before .before .before .before .before .before .before .before .before .before .before .before .before .before .before .before .clear .ensures) in
+    let set-length = kept (trackSet levels chunk samples (l .loop .j)) (chunk .frames) silent (c .before .before .before .before .before .process .ensures .0) ∙ length-replicate 512 (ofBits binary32 0) in
+    (omega (arith, l .loop .inv .1, start .pre .1 .1 .1 .0, cleared-length), omega (arith, ok .short, set-length))
 
--- src/mix.rt:41:9
+-- src/mix.rt:59:9
 sub-j : tie.Need-sub-j Inv-loop μ-loop
 sub-j c = search needs
 
--- src/mix.rt:34:5
+-- src/mix.rt:52:5
 loop-less : tie.Need-loop-less Inv-loop μ-loop
 loop-less c = search needs
 
--- src/mix.rt:34:5
+-- src/mix.rt:52:5
 loop-again : tie.Need-loop-again Inv-loop μ-loop
 loop-again c =
-    let l = c .before .before .before .before in
-    let start = l .before .before .before .before .before .before .before .before in
+    let start = c .before .before .before .before .before .before .before .before .before .before .before .before .before .before in
     let args = start .args in
+    let chunk = chunkFrom (args .places .now) (args .values .now) in
+    let samples = args .samples .now in
+    let l = c .before .before .before .before in
     let j = l .loop .j in
-    let n = args .t1 .frames in
+    let n = chunk .frames in
     let inv = l .loop .inv in
     let h = c .before .before .before .loop-test .taken in
-    let samples = args .samples .now in
-    let g = subStep levels (args .t1) samples 0 in
-    let q = subSend levels (args .t1) samples 0 in
+    let parent = ap (λ (t : ChunkTrack). t .parent) (c .before .before .track-at .ensures) in
+    let g = subStep levels chunk samples 0 in
+    let q = subSend levels chunk samples 0 in
     let e : c .if1 .out ≡ withFrames (g (j - 1)) n (l .loop .out) = ⊎-elim
-    (λ w. w .12 ∙ w .9 .ensures ∙ sub-taken levels (args .t1) samples 0 j (l .loop .out) (w .3 .last .1 .1 .1 .1 .1 .0) silent h (w .0 .taken) (omega (arith, start .pre .1 .0 .short, length-replicate 512 (ofBits binary32 0))) (w .3 .ensures .0))
-    (λ w. w .1 ∙ sym (sub-left levels (args .t1) samples 0 j (l .loop .out) (w .0 .left)))
+    (λ w. w .12 ∙ w .9 .ensures ∙ sub-taken levels chunk samples 0 j (l .loop .out) (w .3 .last .1 .1 .1 .1 .1 .1 .1 .0) silent h (sym parent ∙ w .0 .taken) (omega (arith, start .pre .1 .0 .short, length-replicate 512 (ofBits binary32 0))) (w .3 .ensures .0))
+    (λ w. w .1 ∙ sym (sub-left levels chunk samples 0 j (l .loop .out) (λ p. w .0 .left (parent ∙ p))))
     (c .if1 .came) in
     let f : c .if1 .sends ≡ withFrames (q (j - 1)) sendFrames (l .loop .sends) = ⊎-elim
-    (λ w. w .13 ∙ w .3 .ensures .1 ∙ send-taken levels (args .t1) samples 0 j (l .loop .sends) h (w .0 .taken))
-    (λ w. w .2 ∙ sym (send-left levels (args .t1) samples 0 j (l .loop .sends) (w .0 .left)))
+    (λ w. w .13 ∙ w .3 .ensures .1 ∙ send-taken levels chunk samples 0 j (l .loop .sends) h (sym parent ∙ w .0 .taken))
+    (λ w. w .2 ∙ sym (send-left levels chunk samples 0 j (l .loop .sends) (λ p. w .0 .left (parent ∙ p))))
     (c .if1 .came) in
-    let out = l .before .before .before .clear .last .0 in (
+    let out = c .before .before .before .before .before .before .before .before .clear .last .0 in (
       omega (arith, inv .0),
       turn-length g n out (l .loop .out) (j - 1) (inv .1) e,
       turn-length q sendFrames (args .sends .now) (l .loop .sends) (j - 1) (inv .2) f,
@@ -117,27 +132,29 @@ loop-again c =
       down-turn q sendFrames (args .sends .now) (l .loop .sends) j h (inv .4) f,
     )
 
--- src/mix.rt:23:1
+-- src/mix.rt:32:1
 same-length : tie.Need-same-length Inv-loop μ-loop
 same-length c = search needs
 
--- src/mix.rt:23:1
+-- src/mix.rt:32:1
 same-length-2 : tie.Need-same-length-2 Inv-loop μ-loop
 same-length-2 c = search needs
 
--- src/mix.rt:23:1
+-- src/mix.rt:32:1
 returns : tie.Need-returns Inv-loop μ-loop
 returns c =
-    let l = c .before in
-    let args = l .before .before .before .before .before .before .before .before .args in
+    let start = c .before .before .before .before .before .before .before .before .before .before .before in
+    let args = start .args in
+    let chunk = chunkFrom (args .places .now) (args .values .now) in
     let samples = args .samples .now in
-    let n = args .t1 .frames in
-    let g = subStep levels (args .t1) samples 0 in
-    let q = subSend levels (args .t1) samples 0 in
-    let out = l .before .before .before .clear .last .0 in
-    let under = down-done g n (args .t1 .«track_count») out (omega (arith, c .loop-test .left)) (l .loop .inv .3) ∙ sub-done levels (args .t1) samples 0 out ∙ ap (withFrames (subSum levels (args .t1) samples 0) n) (l .before .before .before .clear .ensures) in
-    let sent = down-done q sendFrames (args .t1 .«track_count») (args .sends .now) (omega (arith, c .loop-test .left)) (l .loop .inv .4) ∙ send-done levels (args .t1) samples 0 (args .sends .now) in
-    (tracks-mixed (args .t1) samples (args .out .now) under, sent ∙ all-sends (args .t1) samples (args .sends .now))
+    let l = c .before in
+    let n = chunk .frames in
+    let g = subStep levels chunk samples 0 in
+    let q = subSend levels chunk samples 0 in
+    let out = c .before .before .before .before .before .clear .last .0 in
+    let under = down-done g n (chunk .«track_count») out (omega (arith, c .loop-test .left)) (l .loop .inv .3) ∙ sub-done levels chunk samples 0 out ∙ ap (withFrames (subSum levels chunk samples 0) n) (c .before .before .before .before .before .clear .ensures) in
+    let sent = down-done q sendFrames (chunk .«track_count») (args .sends .now) (omega (arith, c .loop-test .left)) (l .loop .inv .4) ∙ send-done levels chunk samples 0 (args .sends .now) in
+    (tracks-mixed chunk samples (args .out .now) under, sent ∙ all-sends chunk samples (args .sends .now))
 
 pub process-tracks-spec : {M : Type 1} → statement M
 process-tracks-spec =
@@ -145,11 +162,12 @@ process-tracks-spec =
     (tie.spec
     Inv-loop
     μ-loop
+    element-copy-out-frames
     clear-requires
+    element-copy-out-j
     loop-holds
-    sub-track
-    mul-track
-    element-copy-out-track
+    sub-track-at
+    track-at-requires
     slice-aggregate-process
     process-requires
     slice-aggregate-add-frames

@@ -1,109 +1,133 @@
-use mathlib.Core.Path.{_≡_, refl, sym, ap, ap₂, _∙_, subst}
-use Prim.Native.Nat.{ℕ, _+_, _-_, _*_, _≤_, _<_}
+use mathlib.Core.Path.{_≡_, refl, sym, ap₂, _∙_}
+use Prim.Native.Nat.{_-_, _≤_}
 use native.Mathlib.Omega.{arith}
 use lib.ListN.{length}
-use lib.Ieee.{Float}
 use borrow.Author.Needs.{needs}
-use Rattle.track.specs.Frame.{withFrames, added, scaled, zeroFrame, frameAt, putFrame}
+use Rattle.track.specs.Frame.{withFrames, added, scaled}
 use Rattle.track.specs.Send.{withSend, sendFrame}
-use Rattle.track.specs.Chunk.{amountAt, levelAmplitude, IsAmount}
-use Rattle.track.specs.ChunkLaws.{amount-is}
+use Rattle.track.specs.ChunkLaws.{parts-is, parts-amplitude}
 use Rattle.track.specs.FrameLaws.{withFrames-zero, withFrames-put, withFrames-end}
 use Rattle.track.proofs.send.add_send.Statement.{statement}
 use Rattle.track.proofs.send.add_send.Tie as tie
 use Rattle.track.proofs.send.add_send.Reads as reads
 use Rattle.track.proofs.send.add_send.Lts as lts
-use Rattle.track.proofs.chunk.Level.amplitude_at.Reads as amplitude-at-reads
-use Rattle.track.proofs.chunk.amount_at.Reads as amount-at-reads
+use Rattle.track.proofs.chunk.Level.amplitude_by.Reads as amplitude-by-reads
+use Rattle.track.proofs.chunk.Level.is_steady.Reads as is-steady-reads
 use Rattle.track.proofs.frame.Frame.added.Reads as added-reads
 use Rattle.track.proofs.frame.Frame.scaled.Reads as scaled-reads
 use Rattle.track.proofs.frame.Frame.zero.Reads as zero-reads
 use Rattle.track.proofs.frame.frame_at.Reads as frame-at-reads
 use Rattle.track.proofs.frame.put_frame.Reads as put-frame-reads
+use Rattle.track.proofs.send.add_steady_send.Reads as add-steady-send-reads
 
 abbrev Inv-loop : tie.InvT-loop
-Inv-loop out₀ inputs first level frames table i₀ out i = (i ≤ frames) × (length out ≡ length out₀) × (out ≡ withFrames (withSend level frames inputs first) i out₀)
+Inv-loop out₀ inputs first level frames parts table i₀ out i = (i ≤ frames) × (length out ≡ length out₀) × (out ≡ withFrames (withSend level frames inputs first) i out₀)
 
 abbrev μ-loop : tie.MeasureT-loop
-μ-loop out₀ inputs first level frames table i₀ out i = frames - i
+μ-loop out₀ inputs first level frames parts table i₀ out i = frames - i
 
--- src/send.rt:41:5
+-- src/send.rt:88:8
+is-steady-requires : tie.Need-is-steady-requires Inv-loop μ-loop
+is-steady-requires c κs = search needs
+
+-- src/send.rt:89:9
+add-steady-send-requires : tie.Need-add-steady-send-requires Inv-loop μ-loop
+add-steady-send-requires c κs =
+    let pre = c .before .before .before .before .before .pre in
+    (pre .0, (pre .1 .0, (pre .1 .1 .0, (pre .1 .1 .1 .0, sym (c .before .before .is-steady .ensures) ∙ c .before .if1 .taken))))
+
+-- src/send.rt:90:9
+same-length : tie.Need-same-length Inv-loop μ-loop
+same-length c = search needs
+
+-- src/send.rt:90:9
+returns : tie.Need-returns Inv-loop μ-loop
+returns c = search needs
+
+-- src/send.rt:93:5
 loop-holds : tie.Need-loop-holds Inv-loop μ-loop
 loop-holds c = (search needs, refl, sym (withFrames-zero _ _))
 
--- src/send.rt:42:13
-amount-at-requires : tie.Need-amount-at-requires Inv-loop μ-loop
-amount-at-requires c κs = search needs
+-- src/send.rt:94:41
+mul-amplitude-by : tie.Need-mul-amplitude-by Inv-loop μ-loop
+mul-amplitude-by c = search needs
 
--- src/send.rt:43:21
+-- src/send.rt:94:41
+element-copy-out-amplitude-by : tie.Need-element-copy-out-amplitude-by Inv-loop μ-loop
+element-copy-out-amplitude-by c = search needs
+
+-- src/send.rt:94:13
+amplitude-by-requires : tie.Need-amplitude-by-requires Inv-loop μ-loop
+amplitude-by-requires c κs =
+    let l = c .before .before in
+    let start = l .before .before .before .before .before in
+    let args = start .args in
+    (start .pre .0, (start .pre .1 .1 .1 .0, parts-is (args .frames) (l .loop .i) (args .parts .now) (start .pre .1 .1 .1 .1) (c .before .loop-test .taken) (start .pre .1 .0 .0)))
+
+-- src/send.rt:95:21
 zero-requires : tie.Need-zero-requires Inv-loop μ-loop
 zero-requires c κs = search needs
 
--- src/send.rt:43:58
+-- src/send.rt:95:58
 add-frame-at : tie.Need-add-frame-at Inv-loop μ-loop
 add-frame-at c = search needs
 
--- src/send.rt:43:41
+-- src/send.rt:95:41
 frame-at-requires : tie.Need-frame-at-requires Inv-loop μ-loop
 frame-at-requires c κs = search needs
 
--- src/send.rt:43:13
+-- src/send.rt:95:13
 added-requires : tie.Need-added-requires Inv-loop μ-loop
 added-requires c κs = search needs
 
--- src/send.rt:44:34
-amplitude-at-requires : tie.Need-amplitude-at-requires Inv-loop μ-loop
-amplitude-at-requires c κs =
-    let start = c .before .before .before .before .before .before .before .before in
-    let args = start .args in
-    let i = c .before .before .before .before .before .loop .i in
-    (start .pre .0, (start .pre .1 .1 .1, subst IsAmount (sym (c .before .before .before .amount-at .ensures)) (amount-is i (args .frames) (c .before .before .before .before .loop-test .taken) (start .pre .1 .0 .0))))
-
--- src/send.rt:44:13
+-- src/send.rt:96:13
 scaled-requires : tie.Need-scaled-requires Inv-loop μ-loop
 scaled-requires c κs = search needs
 
--- src/send.rt:45:27
+-- src/send.rt:97:27
 frame-at-requires-2 : tie.Need-frame-at-requires-2 Inv-loop μ-loop
 frame-at-requires-2 c κs = search needs
 
--- src/send.rt:45:27
+-- src/send.rt:97:27
 added-requires-2 : tie.Need-added-requires-2 Inv-loop μ-loop
 added-requires-2 c κs = search needs
 
--- src/send.rt:45:9
+-- src/send.rt:97:9
 put-frame-requires : tie.Need-put-frame-requires Inv-loop μ-loop
-put-frame-requires c κs = omega (arith, c .before .before .before .before .before .before .before .before .before .before .loop-test .taken, c .before .before .before .before .before .before .before .before .before .before .before .loop .inv .1, c .before .before .before .before .before .before .before .before .before .before .before .before .before .before .pre .1 .0 .1)
+put-frame-requires c κs = omega (arith, c .before .before .before .before .before .before .before .before .before .before .loop-test .taken, c .before .before .before .before .before .before .before .before .before .before .before .loop .inv .1, c .before .before .before .before .before .before .before .before .before .before .before .before .before .before .before .before .pre .1 .0 .1)
 
--- src/send.rt:46:9
+-- src/send.rt:98:9
 add-i : tie.Need-add-i Inv-loop μ-loop
-add-i c = search (needs, c .before .before .before .before .before .before .before .before .before .before .before .before .before .loop-test .taken, c .before .before .before .before .before .before .before .before .before .before .before .before .before .before .before .before .before .pre .1 .0 .0)
+add-i c = search (needs, c .before .before .before .before .before .before .before .before .before .before .before .before .before .loop-test .taken, c .before .before .before .before .before .before .before .before .before .before .before .before .before .before .before .before .before .before .before .pre .1 .0 .0)
 
--- src/send.rt:41:5
+-- src/send.rt:93:5
 loop-less : tie.Need-loop-less Inv-loop μ-loop
 loop-less c = search needs
 
--- src/send.rt:41:5
+-- src/send.rt:93:5
 loop-again : tie.Need-loop-again Inv-loop μ-loop
 unfolding withSend sendFrame
 loop-again c =
     let l = c .before .before .before .before .before .before .before .before .before .before .before .before .before .before in
-    let start = l .before .before .before in
+    let start = l .before .before .before .before .before in
     let args = start .args in
     let h = c .before .before .before .before .before .before .before .before .before .before .before .before .before .loop-test .taken in
     let inv = l .loop .inv in
-    let e = withFrames-put (withSend (args .level) (args .frames) (args .inputs .now) (args .first)) (l .loop .i) (args .out .now) (omega (arith, h, start .pre)) (inv .1) (inv .2) (c .before .before .before .added2 .ensures ∙ ap₂ added (c .before .before .before .before .frame-at2 .ensures) (c .before .before .before .before .before .before .before .scaled .ensures ∙ ap₂ scaled (c .before .before .before .before .before .before .before .before .before .added .ensures ∙ ap₂ added (c .before .before .before .before .before .before .before .before .before .before .before .zero .ensures) (c .before .before .before .before .before .before .before .before .before .before .frame-at .ensures)) (c .before .before .before .before .before .before .before .before .amplitude-at .ensures ∙ ap (levelAmplitude (args .level)) (c .before .before .before .before .before .before .before .before .before .before .before .before .amount-at .ensures)))) (c .before .before .put-frame .ensures) in
+    let input = c .before .before .before .before .before .before .before .before .added .ensures ∙ ap₂ added (c .before .before .before .before .before .before .before .before .before .before .zero .ensures) (c .before .before .before .before .before .before .before .before .before .frame-at .ensures) in
+    let factor = c .before .before .before .before .before .before .before .before .before .before .before .amplitude-by .ensures ∙ parts-amplitude (args .frames) (l .loop .i) (args .parts .now) (start .pre .1 .1 .1 .1) h (args .level) in
+    let frame = c .before .before .before .before .before .before .before .scaled .ensures ∙ ap₂ scaled input factor in
+    let e = withFrames-put (withSend (args .level) (args .frames) (args .inputs .now) (args .first)) (l .loop .i) (args .out .now) (omega (arith, h, start .pre .1 .0 .1)) (inv .1) (inv .2) (c .before .before .before .added2 .ensures ∙ ap₂ added (c .before .before .before .before .frame-at2 .ensures) frame) (c .before .before .put-frame .ensures) in
     (omega (arith, h, inv .0), e .0, e .1)
 
--- src/send.rt:33:1
-same-length : tie.Need-same-length Inv-loop μ-loop
-same-length c = search needs
+-- src/send.rt:72:1
+same-length-2 : tie.Need-same-length-2 Inv-loop μ-loop
+same-length-2 c = search needs
 
--- src/send.rt:33:1
-returns : tie.Need-returns Inv-loop μ-loop
-returns c =
+-- src/send.rt:72:1
+returns-2 : tie.Need-returns-2 Inv-loop μ-loop
+returns-2 c =
     let l = c .before in
-    let args = l .before .before .before .args in
+    let args = l .before .before .before .before .before .args in
     withFrames-end (withSend (args .level) (args .frames) (args .inputs .now) (args .first)) (args .out .now) (omega (arith, c .loop-test .left, l .loop .inv .0)) (l .loop .inv .2)
 
 pub add-send-spec : {M : Type 1} → statement M
@@ -112,13 +136,18 @@ add-send-spec =
     (tie.spec
     Inv-loop
     μ-loop
+    is-steady-requires
+    add-steady-send-requires
+    same-length
+    returns
     loop-holds
-    amount-at-requires
+    mul-amplitude-by
+    element-copy-out-amplitude-by
+    amplitude-by-requires
     zero-requires
     add-frame-at
     frame-at-requires
     added-requires
-    amplitude-at-requires
     scaled-requires
     frame-at-requires-2
     added-requires-2
@@ -126,5 +155,5 @@ add-send-spec =
     add-i
     loop-less
     loop-again
-    same-length
-    returns)
+    same-length-2
+    returns-2)

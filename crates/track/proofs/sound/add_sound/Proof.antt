@@ -1,91 +1,52 @@
-use mathlib.Core.Path.{_≡_, refl, sym, ap, ap₂, _∙_}
-use Prim.Native.Nat.{ℕ, _+_, _-_, _*_, _≤_, _<_}
 use native.Mathlib.Omega.{arith}
-use lib.ListN.{length}
-use lib.Ieee.{Float}
+use Rattle.track.specs.SoundLaws.{sound-ends}
 use borrow.Author.Needs.{needs}
-use Rattle.track.specs.Frame.{withFrames, added, frameAt, putFrame}
-use Rattle.track.specs.Sound.{addedSound, soundFrame}
-use Rattle.track.specs.FrameLaws.{withFrames-zero, withFrames-put, withFrames-end}
 use Rattle.track.proofs.sound.add_sound.Statement.{statement}
 use Rattle.track.proofs.sound.add_sound.Tie as tie
 use Rattle.track.proofs.sound.add_sound.Reads as reads
 use Rattle.track.proofs.sound.add_sound.Lts as lts
-use Rattle.track.proofs.frame.Frame.added.Reads as added-reads
-use Rattle.track.proofs.frame.frame_at.Reads as frame-at-reads
-use Rattle.track.proofs.frame.put_frame.Reads as put-frame-reads
-use Rattle.track.proofs.sound.sound_frame.Reads as sound-frame-reads
+use Rattle.track.proofs.sound.add_played.Reads as add-played-reads
+use Rattle.track.proofs.sound.add_silence.Reads as add-silence-reads
 
-abbrev Inv-loop : tie.InvT-loop
-Inv-loop to₀ samples sound frames i₀ to i = (i ≤ frames) × (length to ≡ length to₀) × (to ≡ withFrames (addedSound samples sound) i to₀)
+-- src/sound.rt:53:9
+add-played-requires : tie.Need-add-played-requires
+add-played-requires c κs = search needs
 
-abbrev μ-loop : tie.MeasureT-loop
-μ-loop to₀ samples sound frames i₀ to i = frames - i
-
--- src/sound.rt:35:5
-loop-holds : tie.Need-loop-holds Inv-loop μ-loop
-loop-holds c = (search needs, refl, sym (withFrames-zero _ _))
-
--- src/sound.rt:36:19
-frame-at-requires : tie.Need-frame-at-requires Inv-loop μ-loop
-frame-at-requires c κs = search needs
-
--- src/sound.rt:36:41
-sound-frame-requires : tie.Need-sound-frame-requires Inv-loop μ-loop
-sound-frame-requires c κs = search needs
-
--- src/sound.rt:36:13
-added-requires : tie.Need-added-requires Inv-loop μ-loop
-added-requires c κs = search needs
-
--- src/sound.rt:37:9
-put-frame-requires : tie.Need-put-frame-requires Inv-loop μ-loop
-put-frame-requires c κs = search needs
-
--- src/sound.rt:38:9
-add-i : tie.Need-add-i Inv-loop μ-loop
-add-i c = search needs
-
--- src/sound.rt:35:5
-loop-less : tie.Need-loop-less Inv-loop μ-loop
-loop-less c = search needs
-
--- src/sound.rt:35:5
-loop-again : tie.Need-loop-again Inv-loop μ-loop
-unfolding addedSound
-loop-again c =
-    let l = c .before .before .before .before .before .before .before .before .before in
-    let start = l .before .before .before in
-    let args = start .args in
-    let h = c .before .before .before .before .before .before .before .before .loop-test .taken in
-    let inv = l .loop .inv in
-    let e = withFrames-put (addedSound (args .samples .now) (args .sound)) (l .loop .i) (args .to .now) (omega (arith, h, start .pre)) (inv .1) (inv .2) (c .before .before .before .before .added .ensures ∙ ap₂ added (c .before .before .before .before .before .before .frame-at .ensures) (c .before .before .before .before .before .sound-frame .ensures)) (c .before .before .put-frame .ensures) in
-    (omega (arith, h, inv .0), e .0, e .1)
-
--- src/sound.rt:29:1
-same-length : tie.Need-same-length Inv-loop μ-loop
+-- src/sound.rt:54:9
+same-length : tie.Need-same-length
 same-length c = search needs
 
--- src/sound.rt:29:1
-returns : tie.Need-returns Inv-loop μ-loop
-returns c =
-    let l = c .before in
-    let args = l .before .before .before .args in
-    withFrames-end (addedSound (args .samples .now) (args .sound)) (args .to .now) (omega (arith, c .loop-test .left, l .loop .inv .0)) (l .loop .inv .2)
+-- src/sound.rt:54:9
+returns : tie.Need-returns
+returns c = search needs
+
+-- src/sound.rt:56:5
+add-played-requires-2 : tie.Need-add-played-requires-2
+add-played-requires-2 c κs = search needs
+
+-- src/sound.rt:57:5
+add-silence-requires : tie.Need-add-silence-requires
+add-silence-requires c κs = search needs
+
+-- src/sound.rt:46:1
+same-length-2 : tie.Need-same-length-2
+same-length-2 c = search needs
+
+-- src/sound.rt:46:1
+returns-2 : tie.Need-returns-2
+returns-2 c =
+    let start = c .before .before .before .before .before .before .before .before .before .before .before in
+    let args = start .args in
+    sound-ends (args .samples .now) (args .sound) (args .frames) (args .to .now) (omega (arith, c .before .before .before .before .before .before .before .before .if1 .left)) (c .before .before .before .before .before .before .add-played2 .ensures) (c .before .before .add-silence .ensures)
 
 pub add-sound-spec : {M : Type 1} → statement M
 add-sound-spec =
     tie.close
     (tie.spec
-    Inv-loop
-    μ-loop
-    loop-holds
-    frame-at-requires
-    sound-frame-requires
-    added-requires
-    put-frame-requires
-    add-i
-    loop-less
-    loop-again
+    add-played-requires
     same-length
-    returns)
+    returns
+    add-played-requires-2
+    add-silence-requires
+    same-length-2
+    returns-2)

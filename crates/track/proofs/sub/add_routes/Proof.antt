@@ -1,91 +1,117 @@
 use mathlib.Core.Path.{_≡_, refl, sym, ap, _∙_}
 use mathlib.Core.Logic.{⊎-elim}
-use Prim.Native.Nat.{ℕ, _+_, _-_, _*_, _≤_, _<_, zero-le}
+use Prim.Native.Nat.{ℕ, _+_, _-_, _*_, _≤_, zero-le}
 use native.Mathlib.Omega.{arith}
 use lib.ListN.{length}
 use borrow.Author.Needs.{needs}
 use Rattle.laws.specs.Loop.{upto, upto-zero}
-use Rattle.track.specs.Frame.{withFrames}
-use Rattle.track.specs.Chunk.{routeLine}
+use Rattle.track.specs.Frame.{withFrames, placed, addedScaled}
 use Rattle.track.specs.Sub.{sendFrames}
 use Rattle.track.specs.TurnLaws.{turns, turn-length, up-turn, up-done}
 use Rattle.track.specs.SubLaws.{routeStep, route-taken, route-left, routes-done}
+use mathlib.Core.List.{List}
+use lib.Ieee.{Float}
+use Rattle.track.specs.declared.chunk.Chunk.{Chunk}
+use Rattle.track.specs.declared.chunk.ChunkRoute.{ChunkRoute}
+use Rattle.track.specs.Flat.{chunkFrom}
 use Rattle.track.proofs.sub.add_routes.Statement.{statement}
 use Rattle.track.proofs.sub.add_routes.Tie as tie
 use Rattle.track.proofs.sub.add_routes.Reads as reads
 use Rattle.track.proofs.sub.add_routes.Lts as lts
+use Rattle.track.proofs.flat.route_at.Reads as route-at-reads
 use Rattle.track.proofs.frame.add_scaled.Reads as add-scaled-reads
 
+abbrev Inv : Chunk → ℕ → List Float → List Float → List Float → ℕ → Type 0
+Inv chunk line out sends₀ sends r = (r ≤ chunk .«route_count») × (length sends ≡ length sends₀) × (sends ≡ upto (turns (routeStep chunk line out) sendFrames) r sends₀)
+
 abbrev Inv-loop : tie.InvT-loop
-Inv-loop sends₀ out samples line chunk frames r₀ sends r = (r ≤ chunk .«route_count») × (length sends ≡ length sends₀) × (sends ≡ upto (turns (routeStep chunk line out) sendFrames) r sends₀)
+Inv-loop sends₀ out places values samples line frames r₀ sends r = Inv (chunkFrom places values) line out sends₀ sends r
 
 abbrev μ-loop : tie.MeasureT-loop
-μ-loop sends₀ out samples line chunk frames r₀ sends r = chunk .«route_count» - r
+μ-loop sends₀ out places values samples line frames r₀ sends r = chunkFrom places values .«route_count» - r
 
--- src/sub.rt:53:5
+-- src/sub.rt:70:18
+element-copy-out-frames : tie.Need-element-copy-out-frames Inv-loop μ-loop
+element-copy-out-frames c = search needs
+
+-- src/sub.rt:72:5
 loop-holds : tie.Need-loop-holds Inv-loop μ-loop
 loop-holds c = (zero-le, refl, sym (upto-zero _ _))
 
--- src/sub.rt:54:21
-mul-route : tie.Need-mul-route Inv-loop μ-loop
-mul-route c = search needs
+-- src/sub.rt:72:15
+element-copy-out-if1 : tie.Need-element-copy-out-if1 Inv-loop μ-loop
+element-copy-out-if1 c = search needs
 
--- src/sub.rt:54:21
-element-copy-out-route : tie.Need-element-copy-out-route Inv-loop μ-loop
-element-copy-out-route c = omega (arith, c .loop-test .taken, c .before .before .before .before .before .pre .0 .routes)
+-- src/sub.rt:73:13
+route-at-requires : tie.Need-route-at-requires Inv-loop μ-loop
+route-at-requires c κs = omega (arith, c .if1 .taken, c .before .before .before .before .before .before .before .pre .0 .routes)
 
--- src/sub.rt:56:26
+-- src/sub.rt:75:26
 sub-first : tie.Need-sub-first Inv-loop μ-loop
-sub-first c = let routed = c .before .before .before .before .before .before .before .before .before .pre .0 .routed (c .before .before .before .before .before .loop .r) (c .before .before .before .before .loop-test .taken) in search (needs, routed .0, routed .1)
+sub-first c =
+    let start = c .before .before .before .before .before .before .before .before .before .before .before in
+    let send = ap (λ (x : ChunkRoute). x .send) (c .before .before .before .route-at .ensures) in
+    let routed = start .pre .0 .routed (c .before .before .before .before .before .before .loop .r) (c .before .before .before .before .if1 .taken) in
+    search (needs, send, routed .0, routed .1)
 
--- src/sub.rt:56:25
+-- src/sub.rt:75:25
 mul-first : tie.Need-mul-first Inv-loop μ-loop
-mul-first c = let routed = c .before .before .before .before .before .before .before .before .before .pre .0 .routed (c .before .before .before .before .before .loop .r) (c .before .before .before .before .loop-test .taken) in search (needs, routed .0, routed .1)
+mul-first c =
+    let start = c .before .before .before .before .before .before .before .before .before .before .before in
+    let send = ap (λ (x : ChunkRoute). x .send) (c .before .before .before .route-at .ensures) in
+    let routed = start .pre .0 .routed (c .before .before .before .before .before .before .loop .r) (c .before .before .before .before .if1 .taken) in
+    search (needs, send, routed .0, routed .1)
 
--- src/sub.rt:58:13
+-- src/sub.rt:77:13
 add-scaled-requires : tie.Need-add-scaled-requires Inv-loop μ-loop
 add-scaled-requires c κs =
-    let l = c .before .before .before .before .before .before .before in
-    let start = l .before .before .before .before in
-    let routed = start .pre .0 .routed (l .loop .r) (c .before .before .before .before .before .before .loop-test .taken) in
-    (omega (arith, l .loop .inv .1, start .pre .1 .1, routed .0, routed .1, start .pre .0 .short), start .pre .1 .0)
+    let start = c .before .before .before .before .before .before .before .before .before .before .before .before .before in
+    let send = ap (λ (x : ChunkRoute). x .send) (c .before .before .before .before .before .route-at .ensures) in
+    let routed = start .pre .0 .routed (c .before .before .before .before .before .before .before .before .loop .r) (c .before .before .before .before .before .before .if1 .taken) in
+    (omega (arith, c .before .before .before .before .before .before .before .before .loop .inv .1, start .pre .1 .1, send, routed .0, routed .1, start .pre .0 .short), start .pre .1 .0)
 
--- src/sub.rt:60:9
+-- src/sub.rt:79:9
 add-r : tie.Need-add-r Inv-loop μ-loop
 add-r c = search needs
 
--- src/sub.rt:53:5
+-- src/sub.rt:72:5
 loop-less : tie.Need-loop-less Inv-loop μ-loop
 loop-less c = search needs
 
--- src/sub.rt:53:5
+-- src/sub.rt:72:5
 loop-again : tie.Need-loop-again Inv-loop μ-loop
 loop-again c =
-    let l = c .before .before .before .before in
-    let start = l .before .before .before .before in
+    let l = c .before .before .before .before .before in
+    let start = c .before .before .before .before .before .before .before .before .before .before in
     let args = start .args in
+    let chunk = chunkFrom (args .places .now) (args .values .now) in
+    let out = args .out .now in
     let r = l .loop .r in
     let inv = l .loop .inv in
-    let h = c .before .before .before .loop-test .taken in
-    let g = routeStep (args .t3) (args .line) (args .out .now) in
+    let h = c .before .before .before .if1 .taken in
+    let read = c .before .before .route-at .ensures in
+    let g = routeStep chunk (args .line) out in
     let routed = start .pre .0 .routed r h in
-    let e : c .if1 .sends ≡ withFrames (g r) sendFrames (l .loop .sends) = ⊎-elim
-    (λ w. w .7 ∙ w .4 .ensures ∙ route-taken (args .t3) (args .line) (args .out .now) r (l .loop .sends) (w .0 .taken) (routed .0) (routed .1) (start .pre .0 .short))
-    (λ w. w .1 ∙ sym (route-left (args .t3) (args .line) (args .out .now) r (l .loop .sends) (w .0 .left)))
-    (c .if1 .came) in
+    let e : c .if2 .sends ≡ withFrames (g r) sendFrames (l .loop .sends) = ⊎-elim
+    (λ w. w .7 ∙ w .4 .ensures
+    ∙ ap (λ (x : ChunkRoute). withFrames (placed ((x .send - 1) * 256) (chunk .frames) (addedScaled out (x .amplitude))) ((x .send - 1) * 256 + chunk .frames) (l .loop .sends)) read
+    ∙ route-taken chunk (args .line) out r (l .loop .sends) (ap (λ (x : ChunkRoute). x .track) (sym read) ∙ w .0 .taken) (routed .0) (routed .1) (start .pre .0 .short))
+    (λ w. w .1 ∙ sym (route-left chunk (args .line) out r (l .loop .sends) (λ q. w .0 .left (ap (λ (x : ChunkRoute). x .track) read ∙ q))))
+    (c .if2 .came) in
     (omega (arith, h), turn-length g sendFrames (args .sends .now) (l .loop .sends) r (inv .1) e, up-turn g sendFrames (args .sends .now) (l .loop .sends) r (inv .2) e)
 
--- src/sub.rt:45:1
+-- src/sub.rt:57:1
 same-length : tie.Need-same-length Inv-loop μ-loop
 same-length c = search needs
 
--- src/sub.rt:45:1
+-- src/sub.rt:57:1
 returns : tie.Need-returns Inv-loop μ-loop
 returns c =
-    let l = c .before in
-    let args = l .before .before .before .before .args in
-    up-done (routeStep (args .t3) (args .line) (args .out .now)) sendFrames (args .t3 .«route_count») (args .sends .now) (omega (arith, c .loop-test .left, l .loop .inv .0)) (l .loop .inv .2)
-    ∙ routes-done (args .t3) (args .line) (args .out .now) (args .sends .now)
+    let l = c .before .before in
+    let args = c .before .before .before .before .before .before .before .args in
+    let chunk = chunkFrom (args .places .now) (args .values .now) in
+    up-done (routeStep chunk (args .line) (args .out .now)) sendFrames (chunk .«route_count») (args .sends .now) (omega (arith, c .if1 .left, l .loop .inv .0)) (l .loop .inv .2)
+    ∙ routes-done chunk (args .line) (args .out .now) (args .sends .now)
 
 pub add-routes-spec : {M : Type 1} → statement M
 add-routes-spec =
@@ -93,9 +119,10 @@ add-routes-spec =
     (tie.spec
     Inv-loop
     μ-loop
+    element-copy-out-frames
     loop-holds
-    mul-route
-    element-copy-out-route
+    element-copy-out-if1
+    route-at-requires
     sub-first
     mul-first
     add-scaled-requires

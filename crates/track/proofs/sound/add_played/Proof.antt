@@ -1,0 +1,95 @@
+use mathlib.Core.Path.{_≡_, refl, sym, ap₂, _∙_}
+use Prim.Native.Nat.{_-_, _≤_}
+use native.Mathlib.Omega.{arith}
+use lib.ListN.{length}
+use borrow.Author.Needs.{needs}
+use Rattle.track.specs.Frame.{withFrames, added}
+use Rattle.track.specs.FrameLaws.{withFrames-zero, withFrames-put, withFrames-end}
+use Rattle.track.specs.SoundLaws.{played, sound-plays}
+use Rattle.track.proofs.sound.add_played.Statement.{statement}
+use Rattle.track.proofs.sound.add_played.Tie as tie
+use Rattle.track.proofs.sound.add_played.Reads as reads
+use Rattle.track.proofs.sound.add_played.Lts as lts
+use Rattle.track.proofs.frame.Frame.added.Reads as added-reads
+use Rattle.track.proofs.frame.frame_at.Reads as frame-at-reads
+use Rattle.track.proofs.frame.put_frame.Reads as put-frame-reads
+
+abbrev Inv-loop : tie.InvT-loop
+Inv-loop to₀ samples frames start i₀ to i = (i ≤ frames) × (length to ≡ length to₀) × (to ≡ withFrames (played samples start) i to₀)
+
+abbrev μ-loop : tie.MeasureT-loop
+μ-loop to₀ samples frames start i₀ to i = frames - i
+
+-- src/sound.rt:24:5
+loop-holds : tie.Need-loop-holds Inv-loop μ-loop
+loop-holds c = (search needs, refl, sym (withFrames-zero _ _))
+
+-- src/sound.rt:25:19
+frame-at-requires : tie.Need-frame-at-requires Inv-loop μ-loop
+frame-at-requires c κs = search needs
+
+-- src/sound.rt:25:59
+add-frame-at : tie.Need-add-frame-at Inv-loop μ-loop
+add-frame-at c = search needs
+
+-- src/sound.rt:25:41
+frame-at-requires-2 : tie.Need-frame-at-requires-2 Inv-loop μ-loop
+frame-at-requires-2 c κs = search needs
+
+-- src/sound.rt:25:13
+added-requires : tie.Need-added-requires Inv-loop μ-loop
+added-requires c κs = search needs
+
+-- src/sound.rt:26:9
+put-frame-requires : tie.Need-put-frame-requires Inv-loop μ-loop
+put-frame-requires c κs = search needs
+
+-- src/sound.rt:27:9
+add-i : tie.Need-add-i Inv-loop μ-loop
+add-i c = search needs
+
+-- src/sound.rt:24:5
+loop-less : tie.Need-loop-less Inv-loop μ-loop
+loop-less c = search needs
+
+-- src/sound.rt:24:5
+loop-again : tie.Need-loop-again Inv-loop μ-loop
+loop-again c =
+    let l = c .before .before .before .before .before .before .before .before .before in
+    let start = l .before .before .before in
+    let args = start .args in
+    let h = c .before .before .before .before .before .before .before .before .loop-test .taken in
+    let inv = l .loop .inv in
+    let e = withFrames-put (played (args .samples .now) (args .sound .start)) (l .loop .i) (args .to .now) (omega (arith, h, start .pre .0)) (inv .1) (inv .2) (c .before .before .before .before .added .ensures ∙ ap₂ added (c .before .before .before .before .before .before .frame-at .ensures) (c .before .before .before .before .before .frame-at2 .ensures)) (c .before .before .put-frame .ensures) in
+    (omega (arith, h, inv .0), e .0, e .1)
+
+-- src/sound.rt:16:1
+same-length : tie.Need-same-length Inv-loop μ-loop
+same-length c = search needs
+
+-- src/sound.rt:16:1
+returns : tie.Need-returns Inv-loop μ-loop
+returns c =
+    let l = c .before in
+    let start = l .before .before .before in
+    let args = start .args in
+    withFrames-end (played (args .samples .now) (args .sound .start)) (args .to .now) (omega (arith, c .loop-test .left, l .loop .inv .0)) (l .loop .inv .2)
+    ∙ sound-plays (args .samples .now) (args .sound) (args .frames) (args .to .now) (start .pre .1 .1)
+
+pub add-played-spec : {M : Type 1} → statement M
+add-played-spec =
+    tie.close
+    (tie.spec
+    Inv-loop
+    μ-loop
+    loop-holds
+    frame-at-requires
+    add-frame-at
+    frame-at-requires-2
+    added-requires
+    put-frame-requires
+    add-i
+    loop-less
+    loop-again
+    same-length
+    returns)
