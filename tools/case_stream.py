@@ -43,3 +43,13 @@ def as_library(oracle, cases):
     """Every case as one of the library. What the program is asked has the length that it answers with; a refused one keeps 0."""
     asked = answers([oracle, "batch"], cases)
     return [(1, a, b, n if k == 1 else len(samples)) for (k, a, b, n), (_, samples) in zip(cases, asked)]
+
+
+def store(crate, files, check):
+    """Writes the files of a crate, by name; to check, says whether they are so and ends the program."""
+    if check:
+        same = all((crate / name).read_bytes() == text for name, text in files.items())
+        print("as it would be written" if same else "not as it would be written")
+        sys.exit(not same)
+    for name, text in files.items():
+        (crate / name).write_bytes(text)

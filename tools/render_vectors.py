@@ -13,7 +13,7 @@ import subprocess
 import sys
 
 import alike_pairs
-from case_stream import answers, as_library, joined, split
+from case_stream import answers, as_library, joined, split, store
 
 ROOT = pathlib.Path(__file__).resolve().parent.parent
 CRATE = ROOT / "crates/render_vectors"
@@ -96,12 +96,7 @@ def main():
     lines = [n for case, (number, samples) in zip(cases, answered) for n in (number, *(samples if number == 0 else [0] * case[3]))]
     files = {"stdin": joined(cases), "stdout": "".join(f"{n}\n" for n in lines).encode()}
     assert len(files["stdin"]) <= ROOM, len(files["stdin"])
-    if sys.argv[2:] == ["--check"]:
-        same = all((CRATE / name).read_bytes() == text for name, text in files.items())
-        print("as it would be written" if same else "not as it would be written")
-        sys.exit(not same)
-    for name, text in files.items():
-        (CRATE / name).write_bytes(text)
+    store(CRATE, files, sys.argv[2:] == ["--check"])
     silent = sum(not any(samples) for number, samples in answered if number == 0)
     print(f"{len(cases)} scenes, {len(lines) - len(cases)} samples, {silent} silent, {len(files['stdin'])} bytes in, {len(files['stdout'])} out")
     print(f"{alike} alike pairs, outputs equal in every bit; {control} control pairs, outputs that differ")

@@ -86,7 +86,10 @@ fn new_clock(trace: Trace, columns: &[u8]) -> Step {
     };
     let clocks = trace.clocks;
     met(Trace {
-        clock: Clock::new(speed_of(unit, vectors::f64_from_bits(speed)), ticking == 1),
+        clock: Clock::new(
+            speed_of(unit, float_bits::f64_from_bits(speed)),
+            ticking == 1,
+        ),
         clocks,
     })
 }
@@ -106,7 +109,7 @@ fn update_clock(trace: Trace, columns: &[u8]) -> Step {
         return malformed(trace);
     };
     let before = trace.clock;
-    let Moved::To(clock) = moves::try_update(before, vectors::f64_from_bits(dt)) else {
+    let Moved::To(clock) = moves::try_update(before, float_bits::f64_from_bits(dt)) else {
         return malformed(trace);
     };
     let clocks = trace.clocks;
@@ -116,7 +119,7 @@ fn update_clock(trace: Trace, columns: &[u8]) -> Step {
 
 fn stands_at(time: ClockTime, ticks: u64, fraction: u64) -> bool {
     if time.ticks == ticks {
-        return vectors::is_f64(time.fraction, fraction);
+        return float_bits::is_f64(time.fraction, fraction);
     }
     false
 }
@@ -168,7 +171,7 @@ fn ask_start(trace: Trace, columns: &[u8]) -> Step {
     let time = ClockTime {
         clock: clock as usize,
         ticks,
-        fraction: vectors::f64_from_bits(fraction),
+        fraction: float_bits::f64_from_bits(fraction),
     };
     let clocks = trace.clocks;
     answered(trace, starts(clocks, count as usize, time, answer))

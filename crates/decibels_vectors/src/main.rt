@@ -17,7 +17,7 @@ fn answers(decibels: f32, number: u64, amplitude: u32) -> bool {
         return false;
     }
     if answer == 0 {
-        return vectors::is_f32(place, amplitude);
+        return float_bits::is_f32(place, amplitude);
     }
     place == -1.0
 }
@@ -36,7 +36,7 @@ fn is_right(row: &[u8]) -> bool {
     let Column32::Number(to) = vectors::hex32_at(row, 12, 8) else {
         return false;
     };
-    answers(vectors::f32_from_bits(from), number, to)
+    answers(float_bits::f32_from_bits(from), number, to)
 }
 
 fn run_rows(text: &[u8]) -> Tally {

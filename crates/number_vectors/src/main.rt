@@ -25,7 +25,7 @@ fn rounds(row: &[u8]) -> bool {
     let Column32::Number(to) = vectors::hex32_at(row, 17, 8) else {
         return false;
     };
-    vectors::is_f32(number::f64_to_f32(vectors::f64_from_bits(from)), to)
+    float_bits::is_f32(number::f64_to_f32(float_bits::f64_from_bits(from)), to)
 }
 
 // Only 0 to 3,600 seconds have an answer.
@@ -49,7 +49,7 @@ fn counts_nanoseconds(row: &[u8]) -> bool {
     let Column::Number(to) = vectors::hex_at(row, 17, 16) else {
         return false;
     };
-    has_nanoseconds(vectors::f64_from_bits(from), to)
+    has_nanoseconds(float_bits::f64_from_bits(from), to)
 }
 
 // A row `milliseconds f64`.
@@ -63,7 +63,7 @@ fn gives_seconds(row: &[u8]) -> bool {
     let Column::Number(to) = vectors::hex_at(row, 9, 16) else {
         return false;
     };
-    vectors::is_f64(number::secs_f64_from_millis(from), to)
+    float_bits::is_f64(number::secs_f64_from_millis(from), to)
 }
 
 fn is_right(list: List, row: &[u8]) -> bool {

@@ -85,7 +85,7 @@ fn new_parameter(trace: Trace, columns: &[u8]) -> Step {
     let Column32::Number(level) = vectors::hex32(columns) else {
         return malformed(trace);
     };
-    let parameter = Parameter::new(Decibels(vectors::f32_from_bits(level)));
+    let parameter = Parameter::new(Decibels(float_bits::f32_from_bits(level)));
     met(with_parameter(trace, parameter))
 }
 
@@ -102,7 +102,10 @@ fn set(trace: Trace, columns: &[u8]) -> Step {
     };
     let start = order.start;
     let before = trace.parameter;
-    let parameter = before.set(Decibels(vectors::f32_from_bits(level)), order.tween(start));
+    let parameter = before.set(
+        Decibels(float_bits::f32_from_bits(level)),
+        order.tween(start),
+    );
     met(with_parameter(trace, parameter))
 }
 

@@ -1,49 +1,12 @@
-// Reads cases from standard input and prints the number of each. A case is four numbers, each of four
-// bytes, the lowest first: a kind, which is not looked at, the bytes of the scene file, the bytes of
-// the samples, the output's samples; then the two files. The oracle's `batch` reads the same.
-ghost use mathlib.Core.Path.{_≡_};
-ghost use Prim.Native.Nat.{_+_, _*_, _≤_};
-ghost use lib.ListN.{length, take};
+// Reads cases from standard input (`vectors`, cases.rt) and prints the number of each.
+ghost use Prim.Native.Nat.{_≤_};
+ghost use lib.ListN.{length};
 use libc::STDIN_FILENO;
 use libc::STDOUT_FILENO;
 
-fn wide(byte: u8) -> u32
-    ensures { λ r. ⌜ r ≤ 255 ⌝ }
-{
-    byte as u32
-}
-
-// The number whose four bytes begin at a place.
-fn word(bytes: &[u8], at: usize) -> u32
-    requires { ⌜ at + 4 ≤ length (now bytes) ⌝ }
-{
-    let low = wide(bytes[at]) + wide(bytes[at + 1]) * 256;
-    let high = wide(bytes[at + 2]) + wide(bytes[at + 3]) * 256;
-    low + high * 65536
-}
-
-fn least(a: usize, b: usize) -> usize
-    ensures { λ r. ⌜ (r ≤ a) × (r ≤ b) ⌝ }
-{
-    if a < b { a } else { b }
-}
-
-// Puts the samples to the start of the room, as far as it goes, and answers how many there are.
-fn samples_of(bytes: &[u8], room: &mut [f32]) -> usize
-    ensures { λ r. ⌜ (r ≤ length (now (room .exit))) × (r ≡ length (take r (now (room .exit)))) ⌝ }
-{
-    let n = least(bytes.len() / 4, room.len());
-    let mut i = 0;
-    while i < n {
-        room[i] = vectors::f32_from_bits(word(bytes, i * 4));
-        i += 1;
-    }
-    n
-}
-
 fn number_of(file: &[u8], bytes: &[u8], output: usize) -> u32 {
     let mut room = [0.0f32; 16384];
-    let n = samples_of(bytes, &mut room);
+    let n = vectors::samples_of(bytes, &mut room);
     let answer = scene::read_scene(file, &room[..n], output);
     answer.number
 }
@@ -53,16 +16,14 @@ fn number_of(file: &[u8], bytes: &[u8], output: usize) -> u32 {
 fn answer_case(input: &[u8]) -> usize
     ensures { λ r. ⌜ r ≤ length (now (input .entry)) ⌝ }
 {
-    if input.len() < 16 {
+    let case = vectors::first_case(input);
+    let start = case.start;
+    let middle = case.middle;
+    let end = case.end;
+    if end == 0 {
         return 0;
     }
-    let middle = 16 + word(input, 4) as usize;
-    let end = middle + word(input, 8) as usize;
-    if input.len() < end {
-        return 0;
-    }
-    let output = word(input, 12) as usize;
-    let number = number_of(&input[16..middle], &input[middle..end], output);
+    let number = number_of(&input[start..middle], &input[middle..end], case.output);
     io::print_decimal(STDOUT_FILENO, number as u64);
     io::write_all(STDOUT_FILENO, b"\n");
     end

@@ -36,8 +36,8 @@ pub fn read_chunk(columns: &[u8]) -> ChunkRow {
     };
     ChunkRow::Chunk(Chunk {
         count: count as usize,
-        dt: vectors::f64_from_bits(dt),
-        amount: vectors::f64_from_bits(amount),
+        dt: float_bits::f64_from_bits(dt),
+        amount: float_bits::f64_from_bits(amount),
     })
 }
 
@@ -82,11 +82,11 @@ pub fn are_levels(
     let Column32::Number(between) = vectors::hex32(&columns[18..26]) else {
         return false;
     };
-    if !vectors::is_f32(value.0, after) {
+    if !float_bits::is_f32(value.0, after) {
         return false;
     }
-    if !vectors::is_f32(previous.0, before) {
+    if !float_bits::is_f32(previous.0, before) {
         return false;
     }
-    vectors::is_f32(interpolated.0, between)
+    float_bits::is_f32(interpolated.0, between)
 }

@@ -67,7 +67,7 @@ pub fn read_clock(columns: &[u8]) -> ClockRow {
     }
     ClockRow::Clock(PlacedClock {
         place: place as usize,
-        clock: standing(ticking, started, ticks, vectors::f64_from_bits(fraction)),
+        clock: standing(ticking, started, ticks, float_bits::f64_from_bits(fraction)),
     })
 }
 

@@ -73,7 +73,7 @@ fn read_start(columns: &[u8]) -> StartRow {
         kind,
         clock as usize,
         number,
-        vectors::f64_from_bits(fraction),
+        float_bits::f64_from_bits(fraction),
     ))
 }
 

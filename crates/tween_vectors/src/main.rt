@@ -32,7 +32,7 @@ fn eases(row: &[u8]) -> bool {
         return false;
     };
     let easing = trace_rows::easing(kind, power);
-    vectors::is_f64(easing.apply(vectors::f64_from_bits(x)), eased)
+    float_bits::is_f64(easing.apply(float_bits::f64_from_bits(x)), eased)
 }
 
 // A row `f32 f32 f64 f32`: two levels, the amount, and the level between.
@@ -53,11 +53,11 @@ fn interpolates(row: &[u8]) -> bool {
         return false;
     };
     let level = tween::interpolate(
-        Decibels(vectors::f32_from_bits(a)),
-        Decibels(vectors::f32_from_bits(b)),
-        vectors::f64_from_bits(amount),
+        Decibels(float_bits::f32_from_bits(a)),
+        Decibels(float_bits::f32_from_bits(b)),
+        float_bits::f64_from_bits(amount),
     );
-    vectors::is_f32(level.0, between)
+    float_bits::is_f32(level.0, between)
 }
 
 fn is_right(list: List, row: &[u8]) -> bool {

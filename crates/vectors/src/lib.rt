@@ -1,13 +1,13 @@
 // What the programs that run lists of vectors share: the lines of a text, hexadecimal columns, the
-// bits of floats, and the reading and the report of a list.
-mod bits;
+// cases of a stream, and the reading and the report of a list.
+mod cases;
 mod list;
 mod text;
 
-pub use bits::f32_from_bits;
-pub use bits::f64_from_bits;
-pub use bits::is_f32;
-pub use bits::is_f64;
+pub use cases::Case;
+pub use cases::first_case;
+pub use cases::least;
+pub use cases::samples_of;
 pub use list::buffer;
 pub use list::read;
 pub use list::report;

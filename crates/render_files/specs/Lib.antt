@@ -1,0 +1,4 @@
+pub mod Program
+pub mod PrintLaws
+pub mod ProgramLaws
+pub mod FirstBytes

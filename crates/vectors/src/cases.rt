@@ -1,0 +1,63 @@
+// A stream of cases, which the oracle's `batch` reads too. A case is four numbers, each of four bytes, the lowest first: a
+// kind, which is not looked at, the bytes of the scene file, the bytes of the samples, the output's samples; then the two files.
+ghost use mathlib.Core.Path.{_≡_};
+ghost use Prim.Native.Nat.{_≤_};
+ghost use lib.ListN.{length, take};
+
+// Where the files of a case lie: the scene from `start` to `middle`, the samples from there to `end`. All are 0 of no case.
+pub struct Case {
+    pub start: usize,
+    pub middle: usize,
+    pub end: usize,
+    pub output: usize,
+}
+
+// The case that the input begins with.
+pub fn first_case(input: &[u8]) -> Case
+    ensures { λ r. ⌜ (r .start ≤ r .middle) × (r .middle ≤ r .end) × (r .end ≤ length (now (input .entry))) ⌝ }
+{
+    if input.len() < 16 {
+        return Case {
+            start: 0,
+            middle: 0,
+            end: 0,
+            output: 0,
+        };
+    }
+    let middle = 16 + float_bits::word(input, 4) as usize;
+    let end = middle + float_bits::word(input, 8) as usize;
+    if input.len() < end {
+        return Case {
+            start: 0,
+            middle: 0,
+            end: 0,
+            output: 0,
+        };
+    }
+    let output = float_bits::word(input, 12) as usize;
+    Case {
+        start: 16,
+        middle,
+        end,
+        output,
+    }
+}
+
+pub fn least(a: usize, b: usize) -> usize
+    ensures { λ r. ⌜ (r ≤ a) × (r ≤ b) ⌝ }
+{
+    if a < b { a } else { b }
+}
+
+// Puts the samples to the start of the room, as far as it goes, and answers how many there are.
+pub fn samples_of(bytes: &[u8], room: &mut [f32]) -> usize
+    ensures { λ r. ⌜ (r ≤ length (now (room .exit))) × (r ≡ length (take r (now (room .exit)))) ⌝ }
+{
+    let n = least(bytes.len() / 4, room.len());
+    let mut i = 0;
+    while i < n {
+        room[i] = float_bits::f32_from_bits(float_bits::word(bytes, i * 4));
+        i += 1;
+    }
+    n
+}
