@@ -1,15 +1,15 @@
 -- The chunks of a block cover it, and how long the samples of a frame, a chunk, a block and the show are. Assumes nothing.
 use mathlib.Core.Path.{_≡_, refl, sym, ap, ap₂, _∙_, subst}
 use mathlib.Core.Bool.{Bool, true, false, cond}
-use mathlib.Core.List.{List}
+use mathlib.Core.List.{List, _++_}
 use Prim.Native.Nat.{ℕ, zero, suc, _+_, _-_, _*_, _≤_, _<_}
-use native.Mathlib.Nat.{le-trans, le-of-eq, add-mul, mul-le-mul, mul-assoc, zero-mul, mul-le-mul-left, mul-le-mul-right, div-mul-le-self, lt-div-mul-add}
+use native.Mathlib.Nat.{le-trans, le-of-eq, add-mul, mul-le-mul, mul-assoc, zero-mul, mul-le-mul-left, mul-le-mul-right, div-mul-le-self, lt-div-mul-add, add-sub-cancel-left}
 use native.Mathlib.Omega.{arith}
 use lib.Dec.{ltb, lit≤}
-use lib.ListN.{length, length-append}
+use lib.ListN.{length, take, drop, length-append}
 use lib.Ieee.{Float}
 use borrow.Author.Tests.{ltb-true, ltb-false}
-use Rattle.laws.specs.Pieces.{pieces, pieces-zero, pieces-suc, length-pieces, length-elements}
+use Rattle.laws.specs.Pieces.{pieces, begun, pieces-zero, pieces-suc, length-pieces, length-elements, part-put, begun-next}
 use Rattle.scene.specs.declared.scene.Head.{Head}
 use Rattle.scene.specs.declared.scene.Scene.{Scene}
 use Rattle.accepted.specs.SceneOk.{SceneOk}
@@ -143,29 +143,38 @@ join B s d h e = omega arith
 none : (B b q : ℕ) → B ≤ q * b → q ≡ 0 → B ≡ 0
 none B b q h e = let k : q * b ≡ 0 = ap (λ (n : ℕ). n * b) e ∙ omega arith in omega arith
 
-module _ (s : Scene) (samples : List Float) (m : Mixer) (some : 1 ≤ s .head .buffer) where
-  -- the chunks before one of the block
-  pub length-chunks : (k : ℕ) → k < chunkCount (s .head) → length (pieces (blockPiece s samples m) k) ≡ k * s .head .buffer * s .head .channels
-  length-chunks k l =
-      length-pieces (blockPiece s samples m) (s .head .buffer * s .head .channels) k
-      (λ i r. length-chunk s samples i (inChunk s i (chunksDone s i m)) ∙ ap (λ (n : ℕ). n * s .head .channels) (frames-full (s .head) i some (omega arith)))
-      ∙ sym (mul-assoc k (s .head .buffer) (s .head .channels))
+-- a block in pieces, one for each chunk
+module _ (h : Head) (some : 1 ≤ h .buffer) (f : ℕ → List Float) (each : (k : ℕ) → length (f k) ≡ chunkFrames h k * h .channels) where
+  -- the pieces before one of the block
+  pub length-before : (k : ℕ) → k < chunkCount h → length (pieces f k) ≡ k * h .buffer * h .channels
+  length-before k l = length-pieces f (h .buffer * h .channels) k (λ i r. each i ∙ ap (λ (n : ℕ). n * h .channels) (frames-full h i some (omega arith))) ∙ sym (mul-assoc k (h .buffer) (h .channels))
 
-  all-chunks : (q : ℕ) → chunkCount (s .head) ≡ q → length (pieces (blockPiece s samples m) q) ≡ s .head .block * s .head .channels
-  all-chunks zero e =
-      ap length (pieces-zero (blockPiece s samples m))
-      ∙ sym (zero-mul (s .head .channels))
-      ∙ ap (λ (n : ℕ). n * s .head .channels) (sym (none (s .head .block) (s .head .buffer) (chunkCount (s .head)) (count-covers (s .head) some) e))
-  all-chunks (suc k) e =
-      let l : k < chunkCount (s .head) = omega arith in
-      ap length (pieces-suc (blockPiece s samples m) k)
-      ∙ length-append (pieces (blockPiece s samples m) k) (blockPiece s samples m k)
-      ∙ ap₂ _+_ (length-chunks k l) (length-chunk s samples k (inChunk s k (chunksDone s k m)))
-      ∙ both-parts (k * s .head .buffer) (chunkFrames (s .head) k) (s .head .channels) (s .head .block)
-      (join (s .head .block) (k * s .head .buffer) (chunkFrames (s .head) k) (chunk-starts (s .head) some k l) (frames-last (s .head) k some e))
+  all-pieces : (q : ℕ) → chunkCount h ≡ q → length (pieces f q) ≡ h .block * h .channels
+  all-pieces zero e =
+      ap length (pieces-zero f)
+      ∙ sym (zero-mul (h .channels))
+      ∙ ap (λ (n : ℕ). n * h .channels) (sym (none (h .block) (h .buffer) (chunkCount h) (count-covers h some) e))
+  all-pieces (suc k) e =
+      let l : k < chunkCount h = omega arith in
+      ap length (pieces-suc f k)
+      ∙ length-append (pieces f k) (f k)
+      ∙ ap₂ _+_ (length-before k l) (each k)
+      ∙ both-parts (k * h .buffer) (chunkFrames h k) (h .channels) (h .block) (join (h .block) (k * h .buffer) (chunkFrames h k) (chunk-starts h some k l) (frames-last h k some e))
 
-  pub length-block : length (blockSamples s samples m) ≡ s .head .block * s .head .channels
-  length-block = ap length (block-pieces s samples m) ∙ all-chunks (chunkCount (s .head)) refl
+  pub length-all : length (pieces f (chunkCount h)) ≡ h .block * h .channels
+  length-all = all-pieces (chunkCount h) refl
+
+  -- a turn. The piece of chunk k is put in from its place on; n is how many frames it has
+  pub piece-turn : (k n : ℕ) → k < chunkCount h → n ≡ chunkFrames h k → (out₀ : List Float) {out last : List Float} → out ≡ begun (pieces f k) out₀ → last ≡ f k
+      → take (k * h .buffer * h .channels) out ++ (last ++ drop (k * h .buffer * h .channels + n * h .channels - k * h .buffer * h .channels) (drop (k * h .buffer * h .channels) out))
+      ≡ begun (pieces f (k + 1)) out₀
+  piece-turn k n l is out₀ {out} {last} e q =
+      part-put (k * h .buffer * h .channels) (k * h .buffer * h .channels + n * h .channels - k * h .buffer * h .channels) last out
+      (ap length q ∙ each k ∙ ap (λ (i : ℕ). i * h .channels) (sym is) ∙ sym (add-sub-cancel-left (k * h .buffer * h .channels) (n * h .channels)))
+      ∙ begun-next f k out₀ e (sym (length-before k l)) q refl
+
+pub length-block : (s : Scene) (samples : List Float) (m : Mixer) → 1 ≤ s .head .buffer → length (blockSamples s samples m) ≡ s .head .block * s .head .channels
+length-block s samples m some = ap length (block-pieces s samples m) ∙ length-all (s .head) some (blockPiece s samples m) (λ k. length-chunk s samples k (inChunk s k (chunksDone s k m)))
 
 pub length-rendered : (s : Scene) (samples : List Float) → SceneOk s → length (rendered s samples) ≡ s .head .block * s .head .blocks * s .head .channels
 unfolding rendered

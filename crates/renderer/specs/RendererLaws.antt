@@ -1,15 +1,15 @@
 -- What a mixer keeps to lasts through chunks, blocks and the show, so that every chunk can be mixed. Assumes nothing.
-use mathlib.Core.Path.{_≡_, refl, sym, ap, _∙_, subst}
+use mathlib.Core.Path.{_≡_, sym, ap, _∙_, subst}
 use mathlib.Core.List.{List, _++_}
 use Prim.Native.Nat.{ℕ, suc, _+_, _-_, _*_, _^_, _≤_, _<_}
-use native.Mathlib.Nat.{le-trans, le-of-eq, lt-of-le-of-lt, mul-le-mul, add-suc, add-zero, zero-mul, add-sub-cancel-left}
+use native.Mathlib.Nat.{le-trans, le-of-eq, lt-of-le-of-lt, mul-le-mul, add-suc, add-zero, zero-mul}
 use native.Mathlib.Omega.{arith}
 use lib.Dec.{T, le→leb, lit<, lit≤}
 use lib.IntN.{pos}
 use lib.ListN.{length, take, drop}
 use lib.Ieee.{Float, binary64, prec, inFloat}
 use Rattle.laws.specs.Loop.{upto-zero, upto-turn, upto-holds}
-use Rattle.laws.specs.Pieces.{pieces, begun, pieces-cong, part-put, begun-next}
+use Rattle.laws.specs.Pieces.{pieces, begun, pieces-cong}
 use Rattle.laws.specs.Amount.{unsigned}
 use Rattle.number.specs.Duration.{InAnHour}
 use Rattle.clock.specs.ChunkTime.{chunkTime, chunk-step}
@@ -31,7 +31,7 @@ use Rattle.mixer.specs.ChunkOf.{chunkOf}
 use Rattle.mixer.specs.MixerOk.{MixerOk}
 use Rattle.mixer_laws.specs.MixerLaws.{new-ok, ordered-ok, update-ok, played-ok, can-move, chunk-ok}
 use Rattle.renderer.specs.Renderer.{chunkCount, chunkFrames, inChunk, chunkDone, chunksDone, blockDone, mixerAt, channelsOf, chunkSamples}
-use Rattle.renderer.specs.Lengths.{count-most, chunk-starts, frames-most, place-ends, room, framePiece, blockPiece, length-chunk, length-chunks}
+use Rattle.renderer.specs.Lengths.{count-most, chunk-starts, frames-most, place-ends, room, framePiece, blockPiece, length-chunk, piece-turn}
 
 -- ---- a chunk's seconds
 
@@ -127,19 +127,19 @@ pub chunk-of-ok : (s : Scene) (samples : List Float) (k c : ℕ) (m : Mixer) {n 
 chunk-of-ok s samples k c m {n} ok sok h is e = subst (λ (x : Chunk). ChunkOk x samples) (sym e) (chunk-ok s samples c n m ok sok h (few-at s k ok is))
 
 -- what is written of a mixed chunk
-module _ (s : Scene) (samples : List Float) (k : ℕ) (m : Mixer) {n : ℕ} {chunk : Chunk} (is : n ≡ chunkFrames (s .head) k) (e : chunk ≡ chunkOf s n m) where
-  mixed-at : (mix₀ : List Float) {mix : List Float} → 2 * n ≤ length mix₀ → mix ≡ withFrames (mixedSet chunk samples) (chunk .frames) mix₀ → (i : ℕ) → i < n → frameAt mix i ≡ mixedFrame (chunkOf s n m) samples i
-  unfolding mixedSet
-  mixed-at mix₀ long q i l =
-      ap (λ (x : List Float). frameAt x i) q
-      ∙ withFrames-at (mixedSet chunk samples) (chunk .frames) mix₀ i (subst (λ (j : ℕ). i < j) (sym (frames-of s n m e)) l) (omega arith)
-      ∙ ap (λ (x : Chunk). mixedFrame x samples i) e
+pub mix-written : (channels n : ℕ) (chunk : Chunk) (samples mix₀ : List Float) {mix : List Float} → chunk .frames ≡ n → 2 * n ≤ length mix₀ → mix ≡ withFrames (mixedSet chunk samples) (chunk .frames) mix₀ → pieces (framePiece channels mix) n ≡ pieces (λ i. channelsOf channels (clamped (mixedFrame chunk samples i))) n
+unfolding mixedSet
+mix-written channels n chunk samples mix₀ {mix} frames long q =
+    pieces-cong (framePiece channels mix) (λ i. channelsOf channels (clamped (mixedFrame chunk samples i))) n
+    (λ i l. ap (λ (a : Frame). channelsOf channels (clamped a))
+    (ap (λ (x : List Float). frameAt x i) q ∙ withFrames-at (mixedSet chunk samples) (chunk .frames) mix₀ i (subst (λ (j : ℕ). i < j) (sym frames) l) (omega arith)))
 
+module _ (s : Scene) (samples : List Float) (k : ℕ) (m : Mixer) {n : ℕ} {chunk : Chunk} (is : n ≡ chunkFrames (s .head) k) (e : chunk ≡ chunkOf s n m) where
   pub chunk-written : (mix₀ : List Float) {mix : List Float} → 2 * n ≤ length mix₀ → mix ≡ withFrames (mixedSet chunk samples) (chunk .frames) mix₀ → pieces (framePiece (s .head .channels) mix) n ≡ chunkSamples s samples k m
   unfolding chunkSamples
-  chunk-written mix₀ {mix} long q =
-      pieces-cong (framePiece (s .head .channels) mix) (λ i. channelsOf (s .head .channels) (clamped (mixedFrame (chunkOf s n m) samples i))) n
-      (λ i l. ap (λ (a : Frame). channelsOf (s .head .channels) (clamped a)) (mixed-at mix₀ long q i l))
+  chunk-written mix₀ long q =
+      mix-written (s .head .channels) n chunk samples mix₀ (frames-of s n m e) long q
+      ∙ ap (λ (x : Chunk). pieces (λ i. channelsOf (s .head .channels) (clamped (mixedFrame x samples i))) n) e
       ∙ ap (λ (j : ℕ). pieces (λ i. channelsOf (s .head .channels) (clamped (mixedFrame (chunkOf s j m) samples i))) j) is
 
 -- ---- the loop of a block
@@ -158,16 +158,14 @@ module _ (s : Scene) (ok : SceneOk s) {k count : ℕ} (l : k < count) (all : cou
   pub turn-fits : {n : ℕ} → n ≡ chunkFrames (s .head) k → k * s .head .buffer * s .head .channels + n * s .head .channels ≤ 4096
   turn-fits is = le-trans (turn-ends is) (room s ok)
 
--- a turn. The samples of chunk k are put in from its place on; n is how many frames it has
+-- a turn
 module _ (s : Scene) (samples : List Float) (m : Mixer) (some : 1 ≤ s .head .buffer) (k n : ℕ) (l : k < chunkCount (s .head)) (is : n ≡ chunkFrames (s .head) k) where
   pub block-turn : (out₀ : List Float) {out last : List Float} {now : Mixer} → now ≡ chunksDone s k m → out ≡ begun (pieces (blockPiece s samples m) k) out₀ → last ≡ chunkSamples s samples k (inChunk s k now)
       → take (k * s .head .buffer * s .head .channels) out
       ++ (last ++ drop (k * s .head .buffer * s .head .channels + n * s .head .channels - k * s .head .buffer * s .head .channels) (drop (k * s .head .buffer * s .head .channels) out))
       ≡ begun (pieces (blockPiece s samples m) (k + 1)) out₀
-  block-turn out₀ {out} {last} {now} p e q =
-      part-put (k * s .head .buffer * s .head .channels) (k * s .head .buffer * s .head .channels + n * s .head .channels - k * s .head .buffer * s .head .channels) last out
-      (ap length q ∙ length-chunk s samples k (inChunk s k now) ∙ ap (λ (i : ℕ). i * s .head .channels) (sym is) ∙ sym (add-sub-cancel-left (k * s .head .buffer * s .head .channels) (n * s .head .channels)))
-      ∙ begun-next (blockPiece s samples m) k out₀ e (sym (length-chunks s samples m some k l)) (q ∙ ap (λ (x : Mixer). chunkSamples s samples k (inChunk s k x)) p) refl
+  block-turn out₀ p e q =
+      piece-turn (s .head) some (blockPiece s samples m) (λ i. length-chunk s samples i (inChunk s i (chunksDone s i m))) k n l is out₀ e (q ∙ ap (λ (x : Mixer). chunkSamples s samples k (inChunk s k x)) p)
 
 pub chunks-turn : (s : Scene) (k : ℕ) (m : Mixer) {now last : Mixer} → now ≡ chunksDone s k m → last ≡ chunkDone s k now → last ≡ chunksDone s (k + 1) m
 unfolding chunksDone

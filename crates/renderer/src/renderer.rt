@@ -15,7 +15,7 @@ use scene::Scene;
 use track::Frame;
 use track::frame_at;
 
-fn chunk_count(head: Head) -> usize
+pub fn chunk_count(head: Head) -> usize
     requires { ⌜ (1 ≤ head .buffer) × (head .buffer ≤ 256) × (head .block ≤ 512) ⌝ }
     ensures { λ r. ⌜ r ≡ chunkCount head ⌝ }
 {
@@ -23,7 +23,7 @@ fn chunk_count(head: Head) -> usize
 }
 
 // A chunk of `buffer` frames, or what is left of the block.
-fn chunk_frames(head: Head, k: usize) -> usize
+pub fn chunk_frames(head: Head, k: usize) -> usize
     requires { ⌜ k * head .buffer ≤ head .block ⌝ }
     requires { ⌜ head .block ≤ 512 ⌝ }
     ensures { λ r. ⌜ r ≡ chunkFrames head k ⌝ }
@@ -36,7 +36,7 @@ fn chunk_frames(head: Head, k: usize) -> usize
 }
 
 // (1.0 / rate) * n, as kira has it.
-fn chunk_seconds(rate: usize, frames: usize) -> f64
+pub fn chunk_seconds(rate: usize, frames: usize) -> f64
     requires { ⌜ (rate ≤ 192000) × (frames ≤ 256) ⌝ }
     ensures { λ r. ⌜ r ≡ chunkTime rate frames ⌝ }
 {
@@ -71,8 +71,24 @@ fn write_frame(out: &mut [f32], at: usize, channels: usize, frame: Frame)
     }
 }
 
-// Frames are clamped, and then folded to the channels.
-fn write_frames(out: &mut [f32], channels: usize, mix: &[f32], frames: usize)
+// Two channels are the two sides. Nothing is tested for each sample, so that the loop vectorises.
+fn write_stereo(out: &mut [f32], mix: &[f32], frames: usize)
+    requires { ⌜ length (now out) ≡ frames * 2 ⌝ }
+    requires { ⌜ 2 * frames ≤ length (now mix) ⌝ }
+    requires { ⌜ frames ≤ 256 ⌝ }
+    ensures { λ _. ⌜ now (out .exit) ≡ pieces (λ i. channelsOf 2 (clamped (frameAt (now (mix .entry)) i))) frames ⌝ }
+{
+    let mut i = 0;
+    while i < frames {
+        let sides = frame_at(mix, i).clamped();
+        out[2 * i] = sides.left;
+        out[2 * i + 1] = sides.right;
+        i += 1;
+    }
+}
+
+// Any number of channels.
+fn write_channels(out: &mut [f32], channels: usize, mix: &[f32], frames: usize)
     requires { ⌜ length (now out) ≡ frames * channels ⌝ }
     requires { ⌜ 2 * frames ≤ length (now mix) ⌝ }
     requires { ⌜ (frames ≤ 256) × (channels ≤ 8) ⌝ }
@@ -83,6 +99,20 @@ fn write_frames(out: &mut [f32], channels: usize, mix: &[f32], frames: usize)
         let frame = frame_at(mix, i).clamped();
         write_frame(out, i * channels, channels, frame);
         i += 1;
+    }
+}
+
+// Frames are clamped, and then folded to the channels.
+pub fn write_frames(out: &mut [f32], channels: usize, mix: &[f32], frames: usize)
+    requires { ⌜ length (now out) ≡ frames * channels ⌝ }
+    requires { ⌜ 2 * frames ≤ length (now mix) ⌝ }
+    requires { ⌜ (frames ≤ 256) × (channels ≤ 8) ⌝ }
+    ensures { λ _. ⌜ now (out .exit) ≡ pieces (λ i. channelsOf channels (clamped (frameAt (now (mix .entry)) i))) frames ⌝ }
+{
+    if channels == 2 {
+        write_stereo(out, mix, frames);
+    } else {
+        write_channels(out, channels, mix, frames);
     }
 }
 

@@ -1,28 +1,33 @@
 -- The loop over a show's blocks: where each block's samples lie, and what a turn comes to. Assumes nothing.
-use mathlib.Core.Path.{_≡_, refl, sym, ap, _∙_}
+use mathlib.Core.Path.{_≡_, refl, sym, ap, _∙_, subst}
+use mathlib.Core.Bool.{true}
 use mathlib.Core.List.{List, _++_}
-use Prim.Native.Nat.{ℕ, _+_, _-_, _*_, _≤_, _<_}
-use native.Mathlib.Nat.{le-trans, le-of-eq, mul-le-mul, mul-le-mul-right}
+use Prim.Native.Nat.{ℕ, zero, suc, _+_, _-_, _*_, _^_, _≤_, _<_}
+use native.Mathlib.Nat.{le-trans, le-of-eq, le-of-lt, add-mul, zero-mul, mul-le-mul, mul-le-mul-right}
 use native.Mathlib.Omega.{arith}
 use lib.Dec.{lit≤}
 use lib.ListN.{length, take, drop}
 use lib.Ieee.{Float}
 use Rattle.laws.specs.Loop.{upto-zero, upto-turn}
 use Rattle.laws.specs.Pieces.{pieces, begun, length-pieces, part-put, begun-next, begun-end}
+use Rattle.scene.specs.declared.scene.Head.{Head}
 use Rattle.scene.specs.declared.scene.Scene.{Scene}
-use Rattle.accepted.specs.SceneOk.{SceneOk}
+use Rattle.accepted.specs.SceneOk.{SceneOk, SamplesOk}
 use Rattle.mixer.specs.declared.mixer.Mixer.{Mixer}
 use Rattle.mixer.specs.Mixer.{mixerNew}
 use Rattle.mixer.specs.Orders.{mixerOrdered}
+use Rattle.mixer.specs.MixerOk.{MixerOk}
+use Rattle.mixer_laws.specs.MixerLaws.{ordered-ok}
+use Rattle.still_mixer.specs.Still.{mixerStill}
+use Rattle.still_run.specs.StillBlock.{RunOk}
+use Rattle.still_run.specs.StillRunLaws.{showPiece}
 use Rattle.renderer.specs.Renderer.{chunkCount, chunksDone, blockDone, mixerAt, blockSamples, rendered}
-use Rattle.renderer.specs.Lengths.{length-block}
+use Rattle.renderer.specs.RendererLaws.{blocks-ok}
+use Rattle.renderer.specs.Lengths.{count-covers, chunk-starts, count-most, length-block}
 
 -- samples of a block
 abbrev pub width : Scene → ℕ
 width s = s .head .block * s .head .channels
-
-abbrev pub showPiece : Scene → List Float → ℕ → List Float
-showPiece s samples b = blockSamples s samples (mixerOrdered s b (mixerAt s b))
 
 -- ---- places
 
@@ -80,3 +85,44 @@ mixer-start s = sym (upto-zero (blockDone s) (mixerNew s))
 pub mixer-turn : (s : Scene) (b : ℕ) {now ordered last : Mixer} → now ≡ mixerAt s b → ordered ≡ mixerOrdered s b now → last ≡ chunksDone s (chunkCount (s .head)) ordered → last ≡ mixerAt s (b + 1)
 unfolding mixerAt blockDone
 mixer-turn s b p o q = q ∙ ap (chunksDone s (chunkCount (s .head))) o ∙ upto-turn (blockDone s) b (mixerNew s) p
+
+-- ---- the chunks of a block
+
+-- a block has a chunk
+pub count-positive : (h : Head) → 1 ≤ h .buffer → 1 ≤ h .block → 1 ≤ chunkCount h
+count-positive h some more = go (chunkCount h) (count-covers h some)
+  where
+    go : (q : ℕ) → h .block ≤ q * h .buffer → 1 ≤ q
+    go zero k = absurd (omega (arith, more, zero-mul (h .buffer)))
+    go (suc q) k = omega arith
+
+-- its last chunk begins within it
+pub last-starts : (h : Head) → 1 ≤ h .buffer → 1 ≤ h .block → {n : ℕ} → n ≡ chunkCount h → (n - 1) * h .buffer ≤ h .block
+last-starts h some more e = le-of-lt (subst (λ (n : ℕ). (n - 1) * h .buffer < h .block) (sym e) (chunk-starts h some (chunkCount h - 1) (omega (arith, count-positive h some more))))
+
+-- the chunks from block b on can be counted
+run-few : (s : Scene) → SceneOk s → (b : ℕ) → b < s .head .blocks → b * chunkCount (s .head) + (s .head .blocks - b) * chunkCount (s .head) ≤ 2 ^ 20
+run-few s ok b l =
+    let most : s .head .blocks * chunkCount (s .head) ≤ 1024 * 512 = mul-le-mul (ok .blocks .1) (le-trans (count-most (s .head) (ok .buffer .0)) (ok .block .1)) in
+    le-trans (le-of-eq (sym (add-mul b (s .head .blocks - b) (chunkCount (s .head))) ∙ ap (λ (n : ℕ). n * chunkCount (s .head)) (whole b (s .head .blocks) l))) (omega (arith, most))
+  where
+    whole : (b n : ℕ) → b < n → b + (n - b) ≡ n
+    whole b n h = omega arith
+
+-- the mixer once block b's orders are read
+pub mixer-reached : (s : Scene) → SceneOk s → (b : ℕ) → {now ordered : Mixer} → now ≡ mixerAt s b → ordered ≡ mixerOrdered s b now → MixerOk s (b * chunkCount (s .head)) ordered
+mixer-reached s ok b p o = let n = b * chunkCount (s .head) in subst (MixerOk s n) (sym (o ∙ ap (mixerOrdered s b) p)) (ordered-ok s n b (mixerAt s b) ok (blocks-ok s ok b))
+
+-- what a run of blocks asks of a mixer that stands still once block b's orders are read
+pub run-asks : (s : Scene) (samples : List Float) (ok : SceneOk s) → SamplesOk s samples → (b : ℕ) → b < s .head .blocks → {now ordered : Mixer} → now ≡ mixerAt s b → ordered ≡ mixerOrdered s b now
+    → mixerStill s ordered ≡ true → RunOk s ordered b samples
+run-asks s samples ok there b l p o still =
+    record {
+      scene = ok;
+      there = there;
+      inside = l;
+      still = still;
+      chunks = b * chunkCount (s .head);
+      mixer = mixer-reached s ok b p o;
+      few = run-few s ok b l;
+    }

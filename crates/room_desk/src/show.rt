@@ -2,20 +2,29 @@
 ghost use mathlib.Core.Path.{_≡_};
 ghost use mathlib.Core.Bool.{true};
 ghost use mathlib.Core.List.{List};
-ghost use Prim.Native.Nat.{ℕ, _*_};
+ghost use Prim.Native.Nat.{ℕ, _-_, _*_, _≤_};
 ghost use lib.ListN.{length};
 ghost use lib.Ieee.{Float};
 ghost use Rattle.scene_file.specs.Grammar.{tablesOf};
 ghost use Rattle.scene_questions.specs.Questions.{answer};
 ghost use Rattle.accepted.specs.SceneOk.{SceneOk, SamplesOk};
-ghost use Rattle.renderer.specs.Renderer.{rendered};
+ghost use Rattle.renderer.specs.Renderer.{chunkCount, chunkFrames, rendered};
 ghost use Rattle.noninterference.specs.Removed.{Choice};
 ghost use Rattle.noninterference.specs.Alike.{alike};
 ghost use Rattle.room_desk.specs.Render.{outputOf, AreF32};
 use mixer::Mixer;
+use scene::Head;
 use scene::Scene;
 
-// An accepted scene, block by block.
+// The frames of a block's last chunk.
+fn last_frames(head: Head) -> usize
+    requires { ⌜ (1 ≤ head .buffer) × (head .buffer ≤ 256) × (1 ≤ head .block) × (head .block ≤ 512) ⌝ }
+    ensures { λ r. ⌜ r ≡ chunkFrames head (chunkCount head - 1) ⌝ }
+{
+    renderer::chunk_frames(head, renderer::chunk_count(head) - 1)
+}
+
+// An accepted scene: block by block, or, where the mixer stands still, up to the next orders at once.
 fn render_scene(scene: Scene, samples: &[f32], output: &mut [f32])
     requires { ⌜ SceneOk scene ⌝ }
     requires { ⌜ SamplesOk scene (now samples) ⌝ }
@@ -26,14 +35,31 @@ fn render_scene(scene: Scene, samples: &[f32], output: &mut [f32])
     let head = scene.head;
     let blocks = head.blocks;
     let width = head.block * head.channels;
+    let full = track::parts_of(head.buffer);
+    let last = track::parts_of(last_frames(head));
     let mut mixer = Mixer::new(scene);
     let mut b = 0;
     while b < blocks {
         let from = b * width;
         let to = from + width;
         mixer = mixer.on_start_processing(scene, b);
-        mixer = renderer::process_block(mixer, scene, samples, &table, &mut output[from..to]);
-        b += 1;
+        if still_mixer::is_still(scene, mixer) {
+            let run = still_run::still_blocks(
+                mixer,
+                scene,
+                samples,
+                &table,
+                &full,
+                &last,
+                b,
+                output,
+            );
+            mixer = run.mixer;
+            b = run.block;
+        } else {
+            mixer = renderer::process_block(mixer, scene, samples, &table, &mut output[from..to]);
+            b += 1;
+        }
     }
 }
 

@@ -1,90 +1,37 @@
-use mathlib.Core.Path.{_≡_, refl, sym, ap, _∙_}
-use Prim.Native.Nat.{_-_, _≤_}
-use native.Mathlib.Nat.{le-trans, le-of-eq, lt-of-le-of-lt, mul-le-mul}
-use native.Mathlib.Omega.{arith}
-use lib.Dec.{lit<}
-use lib.ListN.{length}
+-- `renderer::write_frames` meets its contract. Assumes nothing.
+use mathlib.Core.Path.{_≡_, sym, ap, _∙_}
+use Prim.Native.Nat.{ℕ, _*_}
 use borrow.Author.Needs.{needs}
-use Rattle.laws.specs.Pieces.{pieces, begun, begun-zero, begun-next, begun-end}
-use Rattle.track.specs.Frame.{clamped}
-use Rattle.renderer.specs.Renderer.{channelsOf}
-use Rattle.renderer.specs.Lengths.{next-place, framePiece, length-frames}
+use Rattle.laws.specs.Pieces.{pieces}
+use Rattle.renderer.specs.Lengths.{framePiece}
 use Rattle.renderer.proofs.renderer.write_frames.Statement.{statement}
 use Rattle.renderer.proofs.renderer.write_frames.Tie as tie
+use Rattle.renderer.proofs.renderer.write_frames.Reads as reads
+use Rattle.renderer.proofs.renderer.write_frames.Lts as lts
+use Rattle.renderer.proofs.renderer.write_channels.Reads as write-channels-reads
+use Rattle.renderer.proofs.renderer.write_stereo.Reads as write-stereo-reads
 
-abbrev Inv-loop : tie.InvT-loop
-Inv-loop out₀ channels mix frames i₀ out i = (i ≤ frames) × (length out ≡ length out₀) × (out ≡ begun (pieces (framePiece channels mix) i) out₀)
+write-stereo-requires : tie.Need-write-stereo-requires
+write-stereo-requires c κs =
+    let start = c .before .before .before .before in
+    (start .pre .0 ∙ ap (λ (n : ℕ). start .args .frames * n) (c .before .if1 .taken), (start .pre .1 .0, start .pre .1 .1 .0))
 
-abbrev μ-loop : tie.MeasureT-loop
-μ-loop out₀ channels mix frames i₀ out i = frames - i
+write-channels-requires : tie.Need-write-channels-requires
+write-channels-requires c κs = search needs
 
-loop-holds : tie.Need-loop-holds Inv-loop μ-loop
-loop-holds c = (search needs, refl, begun-zero _ _)
-
-frame-at-requires : tie.Need-frame-at-requires Inv-loop μ-loop
-frame-at-requires c κs = search needs
-
-clamped-requires : tie.Need-clamped-requires Inv-loop μ-loop
-clamped-requires c κs = search needs
-
-mul-write-frame : tie.Need-mul-write-frame Inv-loop μ-loop
-mul-write-frame c =
-    let l = c .before .before .before .before in
-    let start = l .before .before .before in
-    record { fits = lt-of-le-of-lt (mul-le-mul (le-trans (l .loop .inv .0) (start .pre .1 .1 .0)) (start .pre .1 .1 .1)) (lit< tt) }
-
-write-frame-requires : tie.Need-write-frame-requires Inv-loop μ-loop
-write-frame-requires c κs =
-    let l = c .before .before .before .before in
-    let start = l .before .before .before in
-    let args = start .args in
-    le-trans (next-place (args .channels) (l .loop .i) (args .frames) (c .before .before .before .loop-test .taken)) (le-of-eq (sym (l .loop .inv .1 ∙ start .pre .0)))
-
-add-i : tie.Need-add-i Inv-loop μ-loop
-add-i c = search needs
-
-loop-less : tie.Need-loop-less Inv-loop μ-loop
-loop-less c = search needs
-
-loop-again : tie.Need-loop-again Inv-loop μ-loop
-loop-again c =
-    let l = c .before .before .before .before .before .before .before in
-    let start = l .before .before .before in
-    let args = start .args in
-    let h = c .before .before .before .before .before .before .loop-test .taken in
-    let inv = l .loop .inv in
-    let is = c .before .before .before .before .clamped .ensures ∙ ap clamped (c .before .before .before .before .before .frame-at .ensures) in (
-      omega (arith, h),
-      c .before .before .write-frame .kept .0 ∙ inv .1,
-      begun-next (framePiece (args .channels) (args .mix .now)) (l .loop .i) (args .out .now) (inv .2)
-          (sym (length-frames (args .channels) (args .mix .now) (l .loop .i)))
-          (ap (channelsOf (args .channels)) is) (c .before .before .write-frame .ensures),
-    )
-
-same-length : tie.Need-same-length Inv-loop μ-loop
+same-length : tie.Need-same-length
 same-length c = search needs
 
-returns : tie.Need-returns Inv-loop μ-loop
+returns : tie.Need-returns
 returns c =
-    let l = c .before in
-    let start = l .before .before .before in
-    let args = start .args in
-    begun-end (framePiece (args .channels) (args .mix .now)) (args .out .now) (omega (arith, c .loop-test .left, l .loop .inv .0))
-    (length-frames (args .channels) (args .mix .now) (args .frames) ∙ sym (start .pre .0)) (l .loop .inv .2)
+    let start = c .before .before .before .before .before .before .before in
+    c .before .before .write-stereo .ensures ∙ ap (λ (n : ℕ). pieces (framePiece n (start .args .mix .now)) (start .args .frames)) (sym (c .before .before .before .before .if1 .taken))
+
+same-length-2 : tie.Need-same-length-2
+same-length-2 c = search needs
+
+returns-2 : tie.Need-returns-2
+returns-2 c = search needs
 
 pub write-frames-spec : {M : Type 1} → statement M
-write-frames-spec =
-    tie.close
-    (tie.spec
-    Inv-loop
-    μ-loop
-    loop-holds
-    frame-at-requires
-    clamped-requires
-    mul-write-frame
-    write-frame-requires
-    add-i
-    loop-less
-    loop-again
-    same-length
-    returns)
+write-frames-spec = tie.close (tie.spec write-stereo-requires write-channels-requires same-length returns same-length-2 returns-2)

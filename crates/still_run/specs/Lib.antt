@@ -1,0 +1,10 @@
+pub mod Advance
+pub mod AdvanceLaws
+pub mod Stands
+pub mod StandsLaws
+pub mod StillChunkLaws
+pub mod StillBlock
+pub mod StillTurnLaws
+pub mod StillBlockLaws
+pub mod StillBlocksLaws
+pub mod StillRunLaws
