@@ -13,7 +13,6 @@ fn main() {
 		return;
 	}
 	println!("cargo::rustc-link-search=native={}", folder.display());
-	println!("cargo::rustc-link-lib=static=room_desk");
 	assert_eq!(
 		env::var("OPT_LEVEL").as_deref(),
 		Ok("3"),

@@ -1,5 +1,7 @@
 //! Measures `room_desk_render` next to kira. See bench/README.md.
 
+#[path = "../../drivers/room_desk.rs"]
+mod room_desk;
 mod report;
 mod rounds;
 mod scenes;

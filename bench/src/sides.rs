@@ -3,19 +3,7 @@
 
 use std::time::Duration;
 
-use crate::scenes::Scene;
-
-unsafe extern "C" {
-	// A slice is passed as its first element's place and its length.
-	fn room_desk_render(
-		scene: *const u8,
-		scene_length: usize,
-		samples: *const f32,
-		samples_length: usize,
-		output: *mut f32,
-		output_length: usize,
-	) -> u32;
-}
+use crate::{room_desk, scenes::Scene};
 
 unsafe extern "C" {
 	fn clock_gettime(clock: i32, time: &mut Timespec) -> i32;
@@ -45,7 +33,7 @@ impl Side {
 		let tables = || scene::accepted(scene.file.as_bytes()).expect("an accepted scene");
 		match self {
 			Self::RoomDesk => {
-				let (number, time) = timed(|| room_desk(scene, samples, output));
+				let (number, time) = timed(|| rendered(scene, samples, output));
 				assert_eq!(number, 0, "room_desk refuses {}", scene.name);
 				time
 			}
@@ -64,24 +52,13 @@ impl Side {
 /// What room_desk does before the first block: a call whose output has a length
 /// that question 10 refuses.
 pub fn reading(scene: &Scene, samples: &[f32]) -> Duration {
-	let (number, time) = timed(|| room_desk(scene, samples, &mut []));
+	let (number, time) = timed(|| rendered(scene, samples, &mut []));
 	assert_eq!(number, 10, "question 10 is the last");
 	time
 }
 
-fn room_desk(scene: &Scene, samples: &[f32], output: &mut [f32]) -> u32 {
-	let file = scene.file.as_bytes();
-	// SAFETY: the three slices live through the call, and only `output` is written.
-	unsafe {
-		room_desk_render(
-			file.as_ptr(),
-			file.len(),
-			samples.as_ptr(),
-			samples.len(),
-			output.as_mut_ptr(),
-			output.len(),
-		)
-	}
+fn rendered(scene: &Scene, samples: &[f32], output: &mut [f32]) -> u32 {
+	room_desk::render(scene.file.as_bytes(), samples, output)
 }
 
 fn timed<T>(work: impl FnOnce() -> T) -> (T, Duration) {

@@ -9,31 +9,8 @@
 
 use std::io::{self, Read, Write};
 
-#[link(name = "room_desk", kind = "static")]
-extern "C" {
-    // A slice is passed as its first element's place and its length.
-    fn room_desk_render(
-        scene: *const u8,
-        scene_length: usize,
-        samples: *const f32,
-        samples_length: usize,
-        output: *mut f32,
-        output_length: usize,
-    ) -> u32;
-}
-
-fn render(scene: &[u8], samples: &[f32], output: &mut [f32]) -> u32 {
-    unsafe {
-        room_desk_render(
-            scene.as_ptr(),
-            scene.len(),
-            samples.as_ptr(),
-            samples.len(),
-            output.as_mut_ptr(),
-            output.len(),
-        )
-    }
-}
+#[path = "../room_desk.rs"]
+mod room_desk;
 
 fn words<const N: usize>(input: &mut impl Read) -> Option<[u32; N]> {
     let mut words = [0; N];
@@ -62,7 +39,7 @@ fn answer_all() {
             .map(|b| f32::from_le_bytes(b.try_into().unwrap()))
             .collect();
         let mut output = vec![f32::from_bits(0x4444_4444); count as usize];
-        let number = render(&scene, &samples, &mut output);
+        let number = room_desk::render(&scene, &samples, &mut output);
         out.write_all(&number.to_le_bytes()).unwrap();
         out.write_all(&count.to_le_bytes()).unwrap();
         for sample in output {
