@@ -10,13 +10,14 @@ mod sides;
 use std::{env, process::ExitCode};
 
 const USAGE: &str = "usage: bench [--rounds N] [--blocks N] [SCENE...]
-       bench [--blocks N] --ours-only SCENE   renders once with room_desk, for a profiler
+       bench [--blocks N] --only SIDE SCENE   renders once, for a profiler; SIDE: room_desk powf table
 scenes: steady fading single paused growth (or growth-1, -2, -4, -8, -16, -32); all by default";
 
 struct Options {
 	rounds: usize,
 	blocks: usize,
-	ours_only: Option<String>,
+	/// One side alone.
+	only: Option<sides::Side>,
 	names: Vec<String>,
 }
 
@@ -38,7 +39,7 @@ fn options(words: &[String]) -> Option<Options> {
 	let mut options = Options {
 		rounds: 7,
 		blocks: 1024,
-		ours_only: None,
+		only: None,
 		names: vec![],
 	};
 	let mut words = words.iter();
@@ -46,7 +47,7 @@ fn options(words: &[String]) -> Option<Options> {
 		match word.as_str() {
 			"--rounds" => options.rounds = words.next()?.parse().ok()?,
 			"--blocks" => options.blocks = words.next()?.parse().ok()?,
-			"--ours-only" => options.ours_only = Some(words.next()?.clone()),
+			"--only" => options.only = Some(sides::Side::named(words.next()?)?),
 			name => options.names.push(name.into()),
 		}
 	}
@@ -60,11 +61,8 @@ fn options(words: &[String]) -> Option<Options> {
 		.iter()
 		.flat_map(|name| expanded(name))
 		.collect();
-	let names = options.names.iter().chain(&options.ours_only);
 	let sizes = (1..=1024).contains(&options.blocks) && options.rounds >= 1;
-	let known = names
-		.into_iter()
-		.all(|name| scenes::scene(name, 1).is_some());
+	let known = (options.names.iter()).all(|name| scenes::scene(name, 1).is_some());
 	(sizes && known).then_some(options)
 }
 
@@ -78,13 +76,14 @@ fn expanded(name: &str) -> Vec<String> {
 
 fn run(options: &Options) {
 	let scene = |name: &String| scenes::scene(name, options.blocks).expect("a known name");
-	if let Some(name) = &options.ours_only {
-		let scene = scene(name);
-		let time = rounds::once(&scene, &scenes::samples(scene.sample_frames));
-		println!("{name}: {:.3} ms", time.as_secs_f64() * 1e3);
+	let all: Vec<scenes::Scene> = options.names.iter().map(scene).collect();
+	if let Some(side) = options.only {
+		for scene in &all {
+			let time = rounds::once(side, scene, &scenes::samples(scene.sample_frames));
+			println!("{}: {:.3} ms", scene.name, time.as_secs_f64() * 1e3);
+		}
 		return;
 	}
-	let all: Vec<scenes::Scene> = options.names.iter().map(scene).collect();
 	let frames = all
 		.iter()
 		.map(|scene| scene.sample_frames)
@@ -92,13 +91,18 @@ fn run(options: &Options) {
 		.expect("a scene");
 	let samples = scenes::samples(frames);
 	report::heading(options.blocks, options.rounds);
-	let measured: Vec<rounds::Measured> = all
+	let mut running: Vec<rounds::Running> = all
 		.iter()
-		.map(|scene| {
-			let measured = rounds::measure(scene, &samples, options.rounds);
-			report::row(&measured);
-			measured
-		})
+		.map(|scene| rounds::Running::new(scene, &samples))
 		.collect();
+	for round in 0..options.rounds {
+		for scene in &mut running {
+			scene.round(round);
+		}
+	}
+	let measured: Vec<rounds::Measured> = running.iter().map(|scene| scene.measured()).collect();
+	for scene in &measured {
+		report::row(scene);
+	}
 	report::summary(&measured);
 }

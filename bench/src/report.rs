@@ -1,7 +1,7 @@
 //! The tables that are printed.
 
 use crate::{
-	rounds::Measured,
+	rounds::{Measured, median},
 	scenes::{GROWTH, growth_name},
 };
 
@@ -11,7 +11,7 @@ const TABLE: usize = 2;
 
 pub fn heading(blocks: usize, rounds: usize) {
 	println!(
-		"48,000 Hz, 2 channels, buffer 128, {blocks} blocks of 512 frames; {rounds} rounds, the three in turn."
+		"48,000 Hz, 2 channels, buffer 128, {blocks} blocks of 512 frames; {rounds} rounds of all scenes, the three in turn."
 	);
 	println!(
 		"Only the rendering is timed, by the processor time of its thread. Before each render the output"
@@ -66,16 +66,27 @@ pub fn row(measured: &Measured) {
 	println!(" | {:7.3}", measured.reading / 1e6);
 }
 
+/// Two times of each round, divided: the machine's speed changes between rounds more than within one.
+fn ratios(name: &str, above: &[f64], below: &[f64]) {
+	let mut all: Vec<f64> = above.iter().zip(below).map(|(a, b)| a / b).collect();
+	all.sort_by(f64::total_cmp);
+	let (least, most) = (all[0], all[all.len() - 1]);
+	println!("{name:32} {:6.3}   {least:6.3} to {most:6.3}", median(all));
+}
+
 pub fn summary(all: &[Measured]) {
 	let find = |name: &str| all.iter().find(|measured| measured.name == name);
+	println!("\nratios within a round             median    least     most");
+	for measured in all {
+		let times = &measured.times;
+		let name = format!("{}: kira powf/room_desk", measured.name);
+		ratios(&name, &times[POWF], &times[OURS]);
+	}
 	if let (Some(paused), Some(steady)) = (find("paused"), find("steady")) {
-		let ratio = |side: usize| paused.medians[side] / steady.medians[side];
-		println!(
-			"\npaused/steady: room_desk {:.3}, kira powf {:.3}, kira table {:.3}",
-			ratio(OURS),
-			ratio(POWF),
-			ratio(TABLE)
-		);
+		for (side, name) in [(OURS, "room_desk"), (POWF, "kira powf")] {
+			let name = format!("paused/steady: {name}");
+			ratios(&name, &paused.times[side], &steady.times[side]);
+		}
 	}
 	let growth = GROWTH.map(|tracks| (tracks, find(&growth_name(tracks))));
 	if growth.iter().all(|(_, measured)| measured.is_some()) {

@@ -1,4 +1,5 @@
-//! The rounds of a scene: the sides in turn, and their outputs compared.
+//! The rounds of a scene: the sides in turn, and their outputs compared. A round has every scene once, so
+//! that the times of one round lie close together.
 
 use std::time::Duration;
 
@@ -10,10 +11,21 @@ use crate::{
 /// What every output sample holds before a render: no output has it.
 const BEFORE: f32 = f32::from_bits(0x4444_4444);
 
+/// A scene with its buffers, and the times of the rounds so far.
+pub struct Running<'a> {
+	scene: &'a Scene,
+	samples: &'a [f32],
+	frames: usize,
+	outputs: [Vec<f32>; 3],
+	times: [Vec<Duration>; 3],
+	readings: Vec<Duration>,
+}
+
 pub struct Measured {
 	pub name: String,
 	pub frames: usize,
-	/// Medians in nanoseconds, in the order of `Side::ALL`.
+	/// Nanoseconds of each round, in the order of `Side::ALL`.
+	pub times: [Vec<f64>; 3],
 	pub medians: [f64; 3],
 	/// Of the same: a busy machine moves these less.
 	pub fastest: [f64; 3],
@@ -37,42 +49,56 @@ impl Measured {
 	}
 }
 
-/// Panics where room_desk and kira with the table differ in a bit.
-pub fn measure(scene: &Scene, samples: &[f32], rounds: usize) -> Measured {
-	let tables = scene::accepted(scene.file.as_bytes()).expect("an accepted scene");
-	let samples = &samples[..2 * scene.sample_frames];
-	let mut outputs = Side::ALL.map(|_| vec![BEFORE; scene::output_length(&tables)]);
-	let mut times = Side::ALL.map(|_| vec![]);
-	let mut readings = vec![];
-	for round in 0..rounds {
+impl<'a> Running<'a> {
+	pub fn new(scene: &'a Scene, samples: &'a [f32]) -> Self {
+		let tables = scene::accepted(scene.file.as_bytes()).expect("an accepted scene");
+		Self {
+			scene,
+			samples: &samples[..2 * scene.sample_frames],
+			frames: tables.head.block * tables.head.blocks,
+			outputs: Side::ALL.map(|_| vec![BEFORE; scene::output_length(&tables)]),
+			times: Side::ALL.map(|_| vec![]),
+			readings: vec![],
+		}
+	}
+
+	/// Panics where room_desk and kira with the table differ in a bit.
+	pub fn round(&mut self, round: usize) {
 		for turn in 0..Side::ALL.len() {
 			// Each side comes first, second and third in turn.
 			let place = (turn + round) % Side::ALL.len();
-			outputs[place].fill(BEFORE);
-			times[place].push(Side::ALL[place].render(scene, samples, &mut outputs[place]));
+			let output = &mut self.outputs[place];
+			output.fill(BEFORE);
+			let time = Side::ALL[place].render(self.scene, self.samples, output);
+			self.times[place].push(time);
 		}
-		readings.push(reading(scene, samples));
+		self.readings.push(reading(self.scene, self.samples));
 		assert!(
-			same_bits(&outputs[0], &outputs[2]),
+			same_bits(&self.outputs[0], &self.outputs[2]),
 			"{}: room_desk and kira with the table differ",
-			scene.name
+			self.scene.name
 		);
 	}
-	Measured {
-		name: scene.name.clone(),
-		frames: tables.head.block * tables.head.blocks,
-		medians: times.clone().map(median),
-		fastest: times.map(fastest),
-		reading: median(readings),
-		outputs: compared(&outputs[1], &outputs[2]),
+
+	pub fn measured(&self) -> Measured {
+		let times = self.times.clone().map(nanos);
+		Measured {
+			name: self.scene.name.clone(),
+			frames: self.frames,
+			medians: times.clone().map(median),
+			fastest: times.clone().map(fastest),
+			times,
+			reading: median(nanos(self.readings.clone())),
+			outputs: compared(&self.outputs[1], &self.outputs[2]),
+		}
 	}
 }
 
-/// Renders once with room_desk, for a profiler.
-pub fn once(scene: &Scene, samples: &[f32]) -> Duration {
+/// Renders once with one side, for a profiler.
+pub fn once(side: Side, scene: &Scene, samples: &[f32]) -> Duration {
 	let tables = scene::accepted(scene.file.as_bytes()).expect("an accepted scene");
 	let mut output = vec![BEFORE; scene::output_length(&tables)];
-	let time = Side::RoomDesk.render(scene, &samples[..2 * scene.sample_frames], &mut output);
+	let time = side.render(scene, &samples[..2 * scene.sample_frames], &mut output);
 	assert!(!output.contains(&BEFORE), "a sample was not written");
 	time
 }
@@ -93,16 +119,19 @@ fn compared(powf: &[f32], table: &[f32]) -> Outputs {
 	}
 }
 
-fn median(mut times: Vec<Duration>) -> f64 {
-	times.sort();
-	let middle = times.len() / 2;
-	let upper = times[middle].as_nanos() as f64;
-	if times.len().is_multiple_of(2) {
-		return (upper + times[middle - 1].as_nanos() as f64) / 2.0;
-	}
-	upper
+fn nanos(times: Vec<Duration>) -> Vec<f64> {
+	times.iter().map(|time| time.as_nanos() as f64).collect()
 }
 
-fn fastest(times: Vec<Duration>) -> f64 {
-	times.iter().min().expect("a round").as_nanos() as f64
+pub fn median(mut times: Vec<f64>) -> f64 {
+	times.sort_by(f64::total_cmp);
+	let middle = times.len() / 2;
+	if times.len().is_multiple_of(2) {
+		return (times[middle] + times[middle - 1]) / 2.0;
+	}
+	times[middle]
+}
+
+fn fastest(times: Vec<f64>) -> f64 {
+	times.into_iter().fold(f64::INFINITY, f64::min)
 }

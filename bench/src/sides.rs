@@ -27,6 +27,15 @@ pub enum Side {
 impl Side {
 	pub const ALL: [Self; 3] = [Self::RoomDesk, Self::KiraPowf, Self::KiraTable];
 
+	pub fn named(name: &str) -> Option<Self> {
+		match name {
+			"room_desk" => Some(Self::RoomDesk),
+			"powf" => Some(Self::KiraPowf),
+			"table" => Some(Self::KiraTable),
+			_ => None,
+		}
+	}
+
 	/// Renders the whole show. room_desk's time has the reading of the scene and
 	/// the samples' check in it; kira's begins when its mixer is built.
 	pub fn render(self, scene: &Scene, samples: &[f32], output: &mut [f32]) -> Duration {

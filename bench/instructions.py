@@ -1,0 +1,44 @@
+#!/usr/bin/env python3
+"""Instructions a frame of each side, by callgrind: the same on every run, whatever the machine does.
+
+usage: bench/instructions.py [SCENE...]     (steady fading single paused, or growth-1 … growth-32)
+
+Counted is what the clock times: `room_desk_render`, and of kira the harness's `Show::render`, in a show of 64 blocks. The
+C library is told to clear and copy by plain instructions: callgrind counts `rep stosb` as one instruction a byte.
+"""
+import os
+import re
+import subprocess
+import sys
+
+HERE = os.path.dirname(os.path.abspath(__file__))
+BENCH = os.path.join(HERE, "target", "release", "bench")
+SIDES = {
+    "room_desk": "room_desk_render",
+    "powf": "kira_powf::harness::Show::render",
+    "table": "kira_table::harness::Show::render",
+}
+BLOCKS, BLOCK = 64, 512
+PLAIN = "glibc.cpu.x86_rep_stosb_threshold=1000000000:glibc.cpu.x86_rep_movsb_threshold=1000000000"
+
+
+def a_frame(side, scene):
+    command = ["valgrind", "--tool=callgrind", "--callgrind-out-file=/dev/null", f"--toggle-collect={SIDES[side]}"]
+    command += [BENCH, "--blocks", str(BLOCKS), "--only", side, scene]
+    run = subprocess.run(command, capture_output=True, text=True, check=True, env={**os.environ, "GLIBC_TUNABLES": PLAIN})
+    return int(re.search(r"Collected : (\d+)", run.stderr).group(1)) / (BLOCKS * BLOCK)
+
+
+def main(scenes):
+    print(f"{'scene':10} {'room_desk':>10} {'kira powf':>10} {'kira table':>11} {'powf/room':>10}")
+    ours = {}
+    for scene in scenes:
+        room, powf, table = (a_frame(side, scene) for side in SIDES)
+        ours[scene] = room
+        print(f"{scene:10} {room:10.1f} {powf:10.1f} {table:11.1f} {powf / room:10.3f}", flush=True)
+    if "steady" in ours and "paused" in ours:
+        print(f"paused/steady, room_desk: {ours['paused'] / ours['steady']:.3f}")
+
+
+if __name__ == "__main__":
+    main(sys.argv[1:] or ["steady", "fading", "single", "paused"])
