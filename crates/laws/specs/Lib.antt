@@ -1,5 +1,6 @@
 -- ---- loops and tables
 pub mod Loop
+pub mod Count
 pub mod Kept
 pub mod KeptSum
 pub mod Pieces
