@@ -5,6 +5,7 @@ pub mod Fields
 pub mod Narrow
 pub mod NarrowLaws
 pub mod NarrowBits
+pub mod NormalLaws
 pub mod NarrowNearest
 pub mod RoundedNearest
 pub mod NarrowNearestLaws

@@ -1,7 +1,7 @@
 // An f64 rounded to an f32, ties to even, worked out from the bits.
 ghost use mathlib.Core.Path.{_≡_};
 ghost use Prim.Native.Nat.{_^_, _<_, _+_, _*_, _/_, _%_, _≤_};
-ghost use Rattle.number.specs.Narrow.{narrowed, narrowedBits};
+ghost use Rattle.number.specs.Narrow.{narrowed, narrowedBits, IsNormal};
 use crate::nearest::nearest_quotient;
 
 // The bits of the f32 nearest to a magnitude, which is given as an f64's bits without the sign.
@@ -53,4 +53,14 @@ pub fn f64_to_f32(x: f64) -> f32
     }
     let bits = f64::to_bits(x);
     f32::from_bits(pattern(bits) as u32)
+}
+
+// The same of a positive number that is normal in both formats. Nothing is tested, so that a loop over
+// it vectorises.
+pub fn normal_f64_to_f32(x: f64) -> f32
+    requires { ⌜ IsNormal x ⌝ }
+    ensures { λ r. ⌜ r ≡ narrowed x ⌝ }
+{
+    let bits = f64::to_bits(x);
+    f32::from_bits((nearest_quotient(bits, 29) - (896 << 23)) as u32)
 }
