@@ -27,9 +27,9 @@ pub const SILENCE: f32 = -60.0;
 
 // Where 16 times a number of decibels stands among the table's entries: the entry below it, and how
 // far above that entry it is.
-struct Position {
-    entry: usize,
-    rest: f64,
+pub struct Position {
+    pub entry: usize,
+    pub rest: f64,
 }
 
 impl Decibels {
@@ -77,7 +77,7 @@ fn whole_part(x: f64) -> u64
 }
 
 // Between silence and the limit, so that every number here is small.
-fn position_of(n: f32) -> Position
+pub fn position_of(n: f32) -> Position
     requires { ⌜ T (admitted n) ⌝ }
     requires { ⌜ T (not (Ieee.le n silence)) ⌝ }
     requires { ⌜ T (not (Ieee.eq n (whole 0))) ⌝ }

@@ -1,8 +1,11 @@
 // Decibels and amplitudes, kira's decibels.rs, with document 01's gain table in place of `powf`.
 mod decibels;
 mod export;
+mod segment;
 
 pub use decibels::Amplitude;
 pub use decibels::AmplitudeAnswer;
 pub use decibels::Decibels;
 pub use export::room_desk_amplitude;
+pub use segment::Segment;
+pub use segment::segment_of;

@@ -32,7 +32,7 @@ unfolding amplitude eq ofInt
 amplitude-unity positive-zero = refl
 amplitude-unity negative-zero = refl
 
-reach : (A B : ℕ) → T (ltb B A || (eqb A B && true)) → B ≤ A
+pub reach : (A B : ℕ) → T (ltb B A || (eqb A B && true)) → B ≤ A
 reach A B h = go (ltb B A) (eqb A B) (ltb→lt B A) (eqb→eq A B) h
   where
     go : (p q : Bool) → (T p → B < A) → (T q → A ≡ B) → T (p || (q && true)) → B ≤ A
@@ -71,7 +71,7 @@ amplitude-silent n h = go (eq n (whole 0)) refl
 order : (pa ma pb mb A B : ℕ) → pa ≡ A → ma ≡ 0 → pb ≡ B → mb ≡ 0 → A ≤ B → pa + mb ≤ pb + ma
 order pa ma pb mb A B h i j k l = omega arith
 
-whole-le : (a b : ℕ) → a ≤ b → b < 2 ^ 53 → T (le (whole a) (whole b))
+pub whole-le : (a b : ℕ) → a ≤ b → b < 2 ^ 53 → T (le (whole a) (whole b))
 unfolding ofInt
 whole-le a b h l =
     let x = at-integer binary64 false a (lt-of-le-of-lt h l) in
@@ -80,19 +80,19 @@ whole-le a b h l =
     (order (plus binary64 (whole a)) (minus binary64 (whole a)) (plus binary64 (whole b)) (minus binary64 (whole b)) (a * 2 ^ 1074) (b * 2 ^ 1074) (x .1) (x .2) (y .1) (y .2)
     (mul-le-mul-right (2 ^ 1074) h))
 
-whole-number : (a : ℕ) → a < 2 ^ 53 → Number binary64 (whole a)
+pub whole-number : (a : ℕ) → a < 2 ^ 53 → Number binary64 (whole a)
 unfolding ofInt
 whole-number a h = at-integer binary64 false a h .0
 
 -- the difference of two entries is exact
-record Exact (a b : Float) : Type 0 where
-  is-number : Number binary64 (sub binary64 b a)
-  exactly : plus binary64 (sub binary64 b a) + (minus binary64 b + plus binary64 a) ≡ minus binary64 (sub binary64 b a) + (plus binary64 b + minus binary64 a)
+pub record Exact (a b : Float) : Type 0 where
+  pub is-number : Number binary64 (sub binary64 b a)
+  pub exactly : plus binary64 (sub binary64 b a) + (minus binary64 b + plus binary64 a) ≡ minus binary64 (sub binary64 b a) + (plus binary64 b + minus binary64 a)
 
 parts : (pd mu pt pu mt D X Y : ℕ) → pd ≡ D → mu ≡ 0 → pt ≡ X → pu ≡ Y → mt ≡ 0 → D + X ≡ Y → pd + (mu + pt) ≡ 0 + (pu + mt)
 parts pd mu pt pu mt D X Y a b c d e h = omega arith
 
-exact : (t u : ℕ) → t ≤ u → u < 2 ^ 53 → Exact (whole t) (whole u)
+pub exact : (t u : ℕ) → t ≤ u → u < 2 ^ 53 → Exact (whole t) (whole u)
 unfolding ofInt
 exact t u h l =
     let x = at-integer binary64 false t (lt-of-le-of-lt h l) in
@@ -110,7 +110,7 @@ picked P true x y p q = p tt
 picked P false x y p q = q tt
 
 -- a value between two whole numbers below 2 ^ 44
-to-top : (a b : ℕ) (x : Float) → a ≤ b → b ≤ 2 ^ 44 → Between binary64 (whole a) (whole b) x → Between binary64 posZero (whole (2 ^ 44)) x
+pub to-top : (a b : ℕ) (x : Float) → a ≤ b → b ≤ 2 ^ 44 → Between binary64 (whole a) (whole b) x → Between binary64 posZero (whole (2 ^ 44)) x
 unfolding ofInt
 to-top a b x h l =
     between-widens binary64 (whole a) (whole b) (whole 0) (whole (2 ^ 44)) x (whole-number a (omega arith)) (whole-number b (omega arith)) (whole-number 0 (lit< tt)) (whole-number (2 ^ 44) (lit< tt))
@@ -157,7 +157,7 @@ to-sixteen px mx ph mh py U a b c h =
 bounded : (px mx pt mt T' : ℕ) → pt ≡ T' → mt ≡ 0 → px + mt ≤ pt + mx → px ≤ T' + mx
 bounded px mx pt mt T' a b h = omega arith
 
-quotient-between : (x : Float) → Between binary64 posZero (whole (2 ^ 44)) x → Between binary64 posZero (whole 16) (div binary64 x (whole (2 ^ 40)))
+pub quotient-between : (x : Float) → Between binary64 posZero (whole (2 ^ 44)) x → Between binary64 posZero (whole 16) (div binary64 x (whole (2 ^ 40)))
 unfolding ofInt
 quotient-between x b =
     let z = at-posZero binary64 in

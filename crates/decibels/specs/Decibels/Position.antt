@@ -60,6 +60,23 @@ sub-at f (fin false m e) (fin false n k) a c b d C D p q h =
     ∙ round-same f false (P - Q) (down e * down k) (a * d - b * c) (c * d) (mul-pos (down-pos e) (down-pos k)) (mul-pos C D)
     (difference (m * up e) (n * up k) (down e) (down k) a b c d (p .1) (q .1))
 
+-- a / c - b / d, where that is below 0
+pub sub-under : (f : Format) (x y : Float) (a c b d : ℕ) → 0 < c → 0 < d → HasValue x false a c → HasValue y false b d → a * d < b * c → sub f x y ≡ round f true (b * c - a * d) (c * d)
+unfolding sub sum
+sub-under f nan y a c b d C D p q h = absurd p
+sub-under f (inf s) y a c b d C D p q h = absurd p
+sub-under f (fin true m e) y a c b d C D p q h = absurd (true≢false (p .0))
+sub-under f (fin false m e) nan a c b d C D p q h = absurd q
+sub-under f (fin false m e) (inf s) a c b d C D p q h = absurd q
+sub-under f (fin false m e) (fin true n k) a c b d C D p q h = absurd (true≢false (q .0))
+sub-under f (fin false m e) (fin false n k) a c b d C D p q h =
+    let P = m * up e * down k in
+    let Q = n * up k * down e in
+    cond-true (ltb P Q) (round f true (Q - P) (down e * down k)) (round f false (P - Q) (down e * down k))
+    (lt-ltb P Q (lt-of-not-le λ (g : Q ≤ P). not-le-of-lt h (transfer b a d c (n * up k) (m * up e) (down k) (down e) (down-pos k) (down-pos e) (sym (q .1)) (sym (p .1)) g)))
+    ∙ round-same f true (Q - P) (down e * down k) (b * c - a * d) (c * d) (mul-pos (down-pos e) (down-pos k)) (mul-pos C D)
+    (ap (λ (z : ℕ). (Q - P) * z) (mul-comm c d) ∙ difference (n * up k) (m * up e) (down k) (down e) b a d c (q .1) (p .1) ∙ ap (λ (z : ℕ). (b * c - a * d) * z) (mul-comm (down k) (down e)))
+
 -- -a / c + b / d, where that is above 0
 pub add-at : (f : Format) (x y : Float) (a c b d : ℕ) → 0 < c → 0 < d → HasValue x true a c → HasValue y false b d → a * d < b * c → add f x y ≡ round f false (b * c - a * d) (d * c)
 unfolding add sum
@@ -168,7 +185,7 @@ not-zero s e h =
     T-not (eq (fin s zero e) (whole 0)) h
     (zeros-equal s (0 * up e * 1) (0 * down e) (mul-one (0 * up e) ∙ zero-mul (up e)) (zero-mul (down e)))
 
-by-16 : (s : Bool) (m : ℕ) (e : ℤ) → T (fits binary32 (fin s (suc m) e)) → HasValue (mul binary64 (fin s (suc m) e) sixteen) s (16 * (suc m * up e)) (down e)
+pub by-16 : (s : Bool) (m : ℕ) (e : ℤ) → T (fits binary32 (fin s (suc m) e)) → HasValue (mul binary64 (fin s (suc m) e) sixteen) s (16 * (suc m * up e)) (down e)
 unfolding mul ofBits
 by-16 s m e h =
     let p = fits-parts binary32 s m e h in
