@@ -1,0 +1,4 @@
+// The amplitudes of a level that moves, frame by frame of a chunk.
+mod runs;
+
+pub use runs::amplitudes;
