@@ -1,6 +1,10 @@
 // Questions 8 and 9, of one sample buffer.
 ghost use mathlib.Core.Path.{_≡_};
-ghost use Prim.Native.Nat.{_+_, _*_, _≤_};
+ghost use mathlib.Core.Bool.{not};
+ghost use Prim.Native.Nat.{_+_, _-_, _*_, _≤_, _<_};
+ghost use lib.ListN.{length, getD};
+ghost use lib.Ieee.{nan};
+ghost use Rattle.laws.specs.Count.{counted, ifPicked};
 ghost use Rattle.scene_questions.specs.Questions.{soundsFit, sampleOk, samplesOk};
 ghost use Rattle.scene_questions.specs.Places.{rowsIn};
 use scene_file::at;
@@ -37,16 +41,49 @@ fn sample_ok(x: f32) -> bool
     false
 }
 
-// Question 9.
+fn refusal(x: f32) -> u32
+    ensures { λ r. ⌜ r ≡ ifPicked (not (sampleOk x)) ⌝ }
+{
+    if sample_ok(x) { 0 } else { 1 }
+}
+
+// How many samples of a run are refused. They are counted, since a flag would keep the loop from
+// vectorising.
+fn refused(samples: &[f32], first: usize, to: usize) -> u32
+    requires { ⌜ (first ≤ to) × (to ≤ length (now samples)) × (to ≤ first + 4096) ⌝ }
+    ensures { λ r. ⌜ r ≡ counted (λ j. not (sampleOk (getD (now (samples .entry)) (first + j) nan))) (to - first) ⌝ }
+{
+    let mut count = 0;
+    let mut i = first;
+    while i < to {
+        count += refusal(samples[i]);
+        i += 1;
+    }
+    count
+}
+
+// Where the run that begins at `first` ends.
+fn run_end(first: usize, end: usize) -> usize
+    requires { ⌜ first < end ⌝ }
+    ensures { λ r. ⌜ (first < r) × (r ≤ end) × (r ≤ first + 4096) ⌝ }
+{
+    if end - first <= 4096 {
+        return end;
+    }
+    first + 4096
+}
+
+// Question 9, a run at a time.
 pub fn samples_ok(samples: &[f32]) -> bool
     ensures { λ r. ⌜ r ≡ samplesOk (now (samples .entry)) ⌝ }
 {
-    let mut i = 0;
-    while i < samples.len() {
-        if !sample_ok(samples[i]) {
+    let mut first = 0;
+    while first < samples.len() {
+        let to = run_end(first, samples.len());
+        if refused(samples, first, to) != 0 {
             return false;
         }
-        i += 1;
+        first = to;
     }
     true
 }

@@ -180,14 +180,6 @@ module _ (samples : List Float) where
   pub samples-none : every 0 sampleTest ≡ true
   samples-none = every-none sampleTest
 
-  pub samples-failed : (i : ℕ) (b : Bool) → i < length samples → b ≡ sampleOk (getD samples i nan) → not b ≡ true → false ≡ samplesOk samples
-  unfolding samplesOk sampleTest
-  samples-failed i b h e q = every-failed (length samples) sampleTest i h (sym e ∙ not-true b q)
-
-  pub samples-passed : (i : ℕ) (b : Bool) → b ≡ sampleOk (getD samples i nan) → not b ≡ false → every i sampleTest ≡ true → every (i + 1) sampleTest ≡ true
-  unfolding sampleTest
-  samples-passed i b e q p = every-passed i sampleTest p (sym e ∙ not-false b q)
-
   pub samples-done : (i : ℕ) → length samples ≤ i → i ≤ length samples → every i sampleTest ≡ true → true ≡ samplesOk samples
   unfolding samplesOk sampleTest
   samples-done i h k q = every-done (length samples) sampleTest i h k q

@@ -1,4 +1,4 @@
--- `samples_ok` meets its contract: every sample passed so far is in range. Assumes nothing.
+-- `samples_ok` meets its contract: every sample of the runs so far is in range. Assumes nothing.
 use mathlib.Core.Path.{_≡_}
 use mathlib.Core.Bool.{true}
 use Prim.Native.Nat.{_≤_, _-_}
@@ -6,39 +6,40 @@ use borrow.Author.Needs.{needs}
 use native.Mathlib.Omega.{arith}
 use Rattle.scene_tables.specs.Bytes.{every}
 use lib.ListN.{length}
-use Rattle.scene_questions.specs.Laws.Tracks.{sampleTest, samples-none, samples-failed, samples-passed, samples-done}
+use Rattle.scene_questions.specs.Laws.Tracks.{sampleTest, samples-none, samples-done}
+use Rattle.scene_questions.specs.SamplesLaws.{run-passed, run-failed}
 use Rattle.scene_questions.proofs.samples.samples_ok.Statement.{statement}
 use Rattle.scene_questions.proofs.samples.samples_ok.Tie as tie
 
 abbrev Inv-loop : tie.InvT-loop
-Inv-loop samples i₀ i = (i ≤ length samples) × (every i (sampleTest samples) ≡ true)
+Inv-loop samples first₀ first = (first ≤ length samples) × (every first (sampleTest samples) ≡ true)
 
 abbrev μ-loop : tie.MeasureT-loop
-μ-loop samples i₀ i = length samples - i
+μ-loop samples first₀ first = length samples - first
 
 loop-holds : tie.Need-loop-holds Inv-loop μ-loop
 loop-holds c = (omega arith, search (samples-none, needs))
 
-mul-sample-ok : tie.Need-mul-sample-ok Inv-loop μ-loop
-mul-sample-ok c = search needs
+run-end-requires : tie.Need-run-end-requires Inv-loop μ-loop
+run-end-requires c κs = omega arith
 
-shared-slice-read-sample-ok : tie.Need-shared-slice-read-sample-ok Inv-loop μ-loop
-shared-slice-read-sample-ok c = omega arith
-
-sample-ok-requires : tie.Need-sample-ok-requires Inv-loop μ-loop
-sample-ok-requires c κs = search needs
+refused-requires : tie.Need-refused-requires Inv-loop μ-loop
+refused-requires c κs = (omega arith, omega arith, omega arith)
 
 returns : tie.Need-returns Inv-loop μ-loop
-returns c = search (samples-failed, needs)
-
-add-i : tie.Need-add-i Inv-loop μ-loop
-add-i c = omega arith
+returns c =
+    let first = c .before .before .before .before .loop .first in
+    let to = c .before .before .run-end .result in
+    run-failed (c .before .before .before .before .before .before .args .samples .now) first to (c .before .refused .result) (c .before .refused .ensures) (omega arith) (omega (arith, c .if1 .taken))
 
 loop-less : tie.Need-loop-less Inv-loop μ-loop
 loop-less c = omega arith
 
 loop-again : tie.Need-loop-again Inv-loop μ-loop
-loop-again c = (omega arith, search (samples-passed, needs))
+loop-again c =
+    let at = c .before .before .before .before .loop in
+    let to = c .before .before .run-end .result in
+    (omega arith, run-passed (c .before .before .before .before .before .before .args .samples .now) (at .first) to (c .before .refused .result) (c .before .refused .ensures) (omega (arith, c .if1 .left)) (at .inv .1))
 
 returns-2 : tie.Need-returns-2 Inv-loop μ-loop
 returns-2 c = search (samples-done, needs)
@@ -50,11 +51,9 @@ samples-ok-spec =
     Inv-loop
     μ-loop
     loop-holds
-    mul-sample-ok
-    shared-slice-read-sample-ok
-    sample-ok-requires
+    run-end-requires
+    refused-requires
     returns
-    add-i
     loop-less
     loop-again
     returns-2)
