@@ -6,11 +6,10 @@ use Prim.Native.Nat.{ℕ, _+_, _*_, _≤_, _<_}
 use lib.IntN.{pos}
 use lib.ListN.{getD, length}
 use lib.Ieee.{Float, nan, binary32, binary64, div, mul, eq, ofInt}
-use Rattle.decibels.specs.declared.decibels.Decibels.{Decibels}
 use Rattle.decibels.specs.declared.decibels.Amplitude.{Amplitude}
 use Rattle.decibels.specs.Decibels.{amplitude}
+use Rattle.laws.specs.Loop.{changed}
 use Rattle.laws.specs.Amount.{InUnit}
-use Rattle.laws.specs.Interpolate.{interpolate}
 use Rattle.laws.specs.DecibelRange.{ValueRange}
 use Rattle.number.specs.Narrow.{narrowed}
 use Rattle.tween.specs.Tweenable.{interpolated}
@@ -71,8 +70,9 @@ steadyAmplitude l = record { 0 = amplitude (l .now .0) }
 unfoldable pub partAt : ℕ → ℕ → Float
 partAt i n = narrowed (amountAt i n)
 
-unfoldable pub levelAmplitudeBy : Level → Float → Amplitude
-levelAmplitudeBy l part = record { 0 = amplitude (interpolate binary32 (l .before .0) (l .now .0) part) }
+-- the factors of a level at the first n frames of a chunk of n, in an array
+abbrev pub withFactors : Level → ℕ → List Float → List Float
+withFactors l n factors = changed (λ i x. levelAmplitude l (amountAt i n) .0) n factors
 
 -- ---- what mixing asks of a chunk
 

@@ -14,7 +14,7 @@ use lib.ListN.{getD, length}
 use lib.Ieee.{Float, nan, binary32, binary64, prec, round, sub, div, ofInt, eq, le, isNan, inFloat}
 use lib.Ieee.Scale.{finite}
 use Rattle.laws.specs.Choice.{true-T}
-use Rattle.laws.specs.Loop.{changed, changed-length, changed-below}
+use Rattle.laws.specs.Loop.{changed, changed-length, changed-below, changed-cong}
 use Rattle.laws.specs.Float.{one, zero-of}
 use Rattle.laws.specs.FloatOrder.{Number, magnitude, plus, minus, le→units, units→le, eq→units, number-unique, zero-is}
 use Rattle.laws.specs.Interpolate.{interpolate, range-number, sub-in-range, never-above-start, never-below-start}
@@ -25,9 +25,10 @@ use Rattle.number.specs.NarrowLaws.{narrowed-unit}
 use Rattle.decibels.specs.declared.decibels.Amplitude.{Amplitude}
 use Rattle.decibels.specs.Decibels.{admitted, limit, amplitude}
 use Rattle.decibels.specs.Decibels.Laws.{amplitude-unity}
+use Rattle.fade.specs.Amplitudes.{valueAt, amplitudeAt, withAmplitudes}
 use Rattle.tween.specs.Tweenable.{interpolated}
 use Rattle.track.specs.declared.chunk.Level.{Level}
-use Rattle.track.specs.Chunk.{amountAt, levelAmplitude, isSteady, steadyAmplitude, partAt, levelAmplitudeBy, IsAmount, IsPart, IsParts, LevelInRange}
+use Rattle.track.specs.Chunk.{amountAt, levelAmplitude, isSteady, steadyAmplitude, partAt, withFactors, IsAmount, IsPart, IsParts, LevelInRange}
 
 -- a number of frames is a float
 pub frames-in-float : (n : ℕ) → n ≤ 256 → T (inFloat binary64 (pos n))
@@ -69,10 +70,6 @@ pub level-admitted : (l : Level) (amount : Float) → LevelInRange l → IsAmoun
 unfolding interpolated
 level-admitted l amount h k = part-admitted l (narrowed amount) h (record { amount = amount; lies = k; rounded = refl })
 
-pub amplitude-by : (l : Level) (amount : Float) → levelAmplitude l amount ≡ levelAmplitudeBy l (narrowed amount)
-unfolding levelAmplitude levelAmplitudeBy interpolated
-amplitude-by l amount = refl
-
 -- what the loop that makes them gives
 pub parts-are : (n : ℕ) (l : List Float) {parts : List Float} → n ≤ 256 → length l ≡ 256 → parts ≡ changed (λ k x. partAt k n) n l → IsParts n parts
 parts-are n l h w e = record {
@@ -86,9 +83,23 @@ module _ (n i : ℕ) (parts : List Float) (P : IsParts n parts) (h : i < n) wher
   unfolding partAt
   parts-is k = record { amount = amountAt i n; lies = amount-is i n h k; rounded = P .part i h }
 
-  pub parts-amplitude : (l : Level) → levelAmplitudeBy l (getD parts i nan) ≡ levelAmplitude l (amountAt i n)
-  unfolding partAt
-  parts-amplitude l = ap (levelAmplitudeBy l) (P .part i h) ∙ sym (amplitude-by l (amountAt i n))
+  pub parts-admitted : (l : Level) → n ≤ 256 → LevelInRange l → T (admitted (valueAt (l .before) (l .now) parts i))
+  unfolding valueAt
+  parts-admitted l k r = part-admitted l (getD parts i nan) r (parts-is k)
+
+  -- the amplitude at its part is the one at its amount
+  parts-amplitude : (l : Level) (x : Float) → amplitudeAt (l .before) (l .now) parts i x ≡ levelAmplitude l (amountAt i n) .0
+  unfolding amplitudeAt valueAt levelAmplitude interpolated partAt
+  parts-amplitude l x = ap (λ (part : Float). amplitude (interpolate binary32 (l .before .0) (l .now .0) part)) (P .part i h)
+
+pub factors-are : (l : Level) (n : ℕ) (parts factors : List Float) → IsParts n parts → withAmplitudes (l .before) (l .now) parts n factors ≡ withFactors l n factors
+factors-are l n parts factors P =
+    changed-cong (amplitudeAt (l .before) (l .now) parts) (λ i x. levelAmplitude l (amountAt i n) .0) n factors nan (λ k h _. parts-amplitude n k parts P h l (getD factors k nan))
+
+-- the factor of frame i
+pub factor-at : (l : Level) (n i : ℕ) (before : List Float) {factors : List Float} → i < n → n ≤ length before → factors ≡ withFactors l n before → getD factors i nan ≡ levelAmplitude l (amountAt i n) .0
+factor-at l n i before h w e =
+    ap (λ (r : List Float). getD r i nan) e ∙ changed-below (λ i x. levelAmplitude l (amountAt i n) .0) n before i nan h (omega arith)
 
 -- ---- a level that stands still
 
@@ -140,12 +151,12 @@ module _ (l : Level) (t : Float) (s : isSteady l ≡ true) (h : LevelInRange l) 
       through : (pa ma pb mb px mx : ℕ) → pa + mb ≡ pb + ma → px + ma ≤ pa + mx → pa + mx ≤ px + ma → px + mb ≡ pb + mx
       through pa ma pb mb px mx e u v = omega arith
 
-  steady-by : levelAmplitudeBy l t ≡ steadyAmplitude l
-  unfolding levelAmplitudeBy steadyAmplitude
-  steady-by = ap made (equal-amplitude read b read-is b-number equal)
-    where
-      made : Float → Amplitude
-      made x = record { 0 = x }
+  steady-by : amplitude read ≡ amplitude b
+  steady-by = equal-amplitude read b read-is b-number equal
+
+made : Float → Amplitude
+made x = record { 0 = x }
 
 pub steady : (l : Level) (amount : Float) → isSteady l ≡ true → LevelInRange l → IsAmount amount → levelAmplitude l amount ≡ steadyAmplitude l
-steady l amount s h A = amplitude-by l amount ∙ steady-by l (narrowed amount) s h (narrowed-unit binary64 amount A)
+unfolding levelAmplitude steadyAmplitude interpolated made
+steady l amount s h A = ap made (steady-by l (narrowed amount) s h (narrowed-unit binary64 amount A))

@@ -3,17 +3,17 @@
 use mathlib.Core.Path.{_≡_, refl, sym, ap, ap₂, _∙_, subst}
 use mathlib.Core.List.{List, [], _∷_}
 use Prim.Native.Nat.{ℕ, zero, suc, _+_, _-_, _*_, _≤_, _<_, suc-le-suc, zero-le}
-use native.Mathlib.Nat.{le-refl, le-of-suc-le-suc, not-suc-le-zero, not-le-of-lt, zero-lt-suc, add-sub-cancel-left}
+use native.Mathlib.Nat.{le-refl, le-of-suc-le-suc, not-suc-le-zero, not-le-of-lt, zero-lt-suc, add-sub-cancel-left, sub-zero}
 use native.Mathlib.Numerals.{add-one}
 use native.Mathlib.Omega.{arith}
 use mathlib.Core.Bool.{Bool, true, false, cond, _&&_}
 use lib.Dec.{T, leb, ltb, leb→le, le→leb, ltb→lt, lt→ltb}
-use lib.ListN.{getD, set, length, length-set}
+use lib.ListN.{getD, set, length, length-set, replicate, getD-replicate}
 use lib.Ieee.{Float, nan}
 use Rattle.laws.specs.Choice.{cond-true}
 use Rattle.laws.specs.Loop.{upto, downto, upto-zero, upto-suc, downto-zero, downto-suc}
 use Rattle.track.specs.declared.frame.Frame.{Frame}
-use Rattle.track.specs.Frame.{frameAt, putFrame, withFrames, placed}
+use Rattle.track.specs.Frame.{none, zeroFrame, frameAt, putFrame, withFrames, placed}
 
 -- a step on frames by their number
 abbrev pub Step : Type 0
@@ -238,3 +238,16 @@ module _ (first n : ℕ) (f : Step) (k : ℕ) (a : Frame) where
 
 pub placed-here : (first n : ℕ) (f : Step) (i : ℕ) (a : Frame) → i < n → placed first n f (first + i) a ≡ f i a
 placed-here first n f i a h = placed-in first n f (first + i) a (omega arith) (omega arith) ∙ ap (λ (k : ℕ). f k a) (add-sub-cancel-left first i)
+
+-- a step placed on all of the frames
+pub placed-all : (f : Step) (n : ℕ) (l : List Float) → withFrames (placed 0 (n - 0) f) n l ≡ withFrames f n l
+placed-all f n l = withFrames-cong (placed 0 (n - 0) f) f n l (λ k p _ a. placed-in 0 (n - 0) f k a zero-le (omega arith) ∙ ap (λ (i : ℕ). f i a) (sub-zero k))
+
+-- ---- a buffer of zeros
+
+pair-of : Float → Float → Frame
+pair-of x y = record { left = x; right = y }
+
+pub silent-at : (n k : ℕ) → 2 * k + 1 < n → frameAt (replicate n none) k ≡ zeroFrame
+unfolding frameAt pair-of
+silent-at n k h = ap₂ pair-of (getD-replicate n (2 * k) none nan (omega arith)) (getD-replicate n (2 * k + 1) none nan h)

@@ -1,10 +1,10 @@
 -- What the mix of a chunk comes to, part by part. Assumes nothing.
-use mathlib.Core.Path.{_≡_, refl, sym, ap, ap₂, _∙_}
+use mathlib.Core.Path.{_≡_, refl, sym, ap, _∙_}
 use mathlib.Core.List.{List}
 use Prim.Native.Nat.{ℕ, zero, suc, _+_, _-_, _*_, _≤_, _<_}
 use native.Mathlib.Omega.{arith}
-use lib.ListN.{length, getD, replicate, length-replicate, getD-replicate}
-use lib.Ieee.{Float, nan}
+use lib.ListN.{length, replicate, length-replicate}
+use lib.Ieee.{Float}
 use Rattle.laws.specs.Loop.{downto, downto-cong}
 use Rattle.track.specs.declared.frame.Frame.{Frame}
 use Rattle.track.specs.declared.chunk.Chunk.{Chunk}
@@ -14,7 +14,7 @@ use Rattle.track.specs.Sound.{withSounds}
 use Rattle.track.specs.Send.{sendFrame, levelScaled, withSend}
 use Rattle.track.specs.Sub.{overSubTracks, trackFrame, withTrackSends, onSends, sendFrames}
 use Rattle.track.specs.Mix.{levels, sendInput, tracksFrame, mixedFrame, tracksSet, withAllSends, withSendTracks, mixedSet}
-use Rattle.track.specs.FrameLaws.{Step, withFrames-at, withFrames-cong, withFrames-twice}
+use Rattle.track.specs.FrameLaws.{Step, withFrames-at, withFrames-cong, withFrames-twice, silent-at}
 use Rattle.track.specs.SendLaws.{SendStep, onSends-at}
 use Rattle.track.specs.SubLaws.{subSum, subSends}
 
@@ -29,13 +29,6 @@ module _ (c : Chunk) (samples l : List Float) where
   unfolding withAllSends
   all-sends = refl
 
-pair-of : Float → Float → Frame
-pair-of x y = record { left = x; right = y }
-
-silent-at : (k : ℕ) → 2 * k + 1 < 4096 → frameAt (replicate 4096 none) k ≡ zeroFrame
-unfolding frameAt pair-of
-silent-at k h = ap₂ pair-of (getD-replicate 4096 (2 * k) none nan (omega arith)) (getD-replicate 4096 (2 * k + 1) none nan h)
-
 module _ (c : Chunk) (samples inputs : List Float) (short : c .frames ≤ 256) (is : inputs ≡ withFrames (withAllSends c samples) sendFrames (replicate 4096 none)) where
   pub input-at : (s i : ℕ) → s < 8 → i < c .frames → frameAt inputs (s * 256 + i) ≡ sendInput c samples (suc s) i
   unfolding withAllSends sendInput
@@ -45,7 +38,7 @@ module _ (c : Chunk) (samples inputs : List Float) (short : c .frames ≤ 256) (
       ap (λ (r : List Float). frameAt r k) is
       ∙ withFrames-at (withAllSends c samples) sendFrames (replicate 4096 none) k (omega arith) (within k (length (replicate 4096 none)) (omega arith) (length-replicate 4096 none))
       ∙ onSends-at (c .frames) u s i (frameAt (replicate 4096 none) k) p short
-      ∙ ap (u (suc s) i) (silent-at k (omega arith))
+      ∙ ap (u (suc s) i) (silent-at 4096 k (omega arith))
     where
       within : (k n : ℕ) → k < 2048 → n ≡ 4096 → 2 * k + 1 < n
       within k n h e = omega arith

@@ -1,18 +1,21 @@
--- A level that stands still scales all frames of a chunk by one amplitude. Assumes nothing.
+-- A level that stands still scales all frames of a chunk by one amplitude, and one that moves scales each by the factor that was made for it. Assumes
+-- nothing.
 use mathlib.Core.Path.{_≡_, sym, ap, ap₂, _∙_}
 use mathlib.Core.Bool.{true}
 use mathlib.Core.List.{List}
 use Prim.Native.Nat.{ℕ, _+_, _≤_, _<_}
-use lib.Ieee.{Float, binary32, mul}
+use native.Mathlib.Omega.{arith}
+use lib.ListN.{length, getD}
+use lib.Ieee.{Float, nan, binary32, mul}
 use Rattle.decibels.specs.declared.decibels.Amplitude.{Amplitude}
 use Rattle.track.specs.declared.frame.Frame.{Frame}
 use Rattle.track.specs.declared.chunk.Level.{Level}
 use Rattle.track.specs.declared.chunk.ChunkTrack.{ChunkTrack}
 use Rattle.track.specs.Frame.{zeroFrame, added, scaled, scaledBy, frameAt, withFrames}
-use Rattle.track.specs.Chunk.{amountAt, levelAmplitude, trackAmplitude, isSteady, steadyAmplitude, LevelInRange}
+use Rattle.track.specs.Chunk.{amountAt, levelAmplitude, trackAmplitude, isSteady, steadyAmplitude, withFactors, LevelInRange}
 use Rattle.track.specs.Send.{sendFrame, levelScaled, withSend}
 use Rattle.track.specs.Sub.{trackScaled}
-use Rattle.track.specs.ChunkLaws.{amount-is, steady}
+use Rattle.track.specs.ChunkLaws.{amount-is, factor-at, steady}
 use Rattle.track.specs.FrameLaws.{withFrames-cong}
 
 -- the product of two amplitudes
@@ -25,9 +28,24 @@ product x y = record { 0 = mul binary32 (x .0) (y .0) }
 abbrev pub sent : List Float → ℕ → Amplitude → ℕ → Frame → Frame
 sent inputs first factor i a = added a (scaled (added zeroFrame (frameAt inputs (first + i))) factor)
 
--- a moving volume, by an amplitude of the fade
-abbrev pub volumeScaled : Level → Amplitude → ℕ → ℕ → Frame → Frame
-volumeScaled volume fade n i a = scaled a (product (levelAmplitude volume (amountAt i n)) fade)
+-- the factor of frame i in an array
+abbrev pub factorOf : List Float → ℕ → Amplitude
+factorOf factors i = record { 0 = getD factors i nan }
+
+-- by factors of their own
+abbrev pub scaledEach : List Float → ℕ → Frame → Frame
+scaledEach factors i a = scaled a (factorOf factors i)
+
+-- by those, and by one more
+abbrev pub scaledEachBy : List Float → Amplitude → ℕ → Frame → Frame
+scaledEachBy factors by i a = scaled a (product (factorOf factors i) by)
+
+-- by two of their own
+abbrev pub scaledTwice : List Float → List Float → ℕ → Frame → Frame
+scaledTwice factors others i a = scaled a (product (factorOf factors i) (factorOf others i))
+
+abbrev pub sentEach : List Float → ℕ → List Float → ℕ → Frame → Frame
+sentEach inputs first factors i a = sent inputs first (factorOf factors i) i a
 
 -- ---- levels that stand still
 
@@ -50,7 +68,28 @@ module _ (n : ℕ) (short : n ≤ 256) where
   send-steady level inputs first l {factor} s h e = withFrames-cong (sent inputs first factor) (withSend level n inputs first) n l
       (λ k p _ a. ap (λ (x : Amplitude). added a (scaled (added zeroFrame (frameAt inputs (first + k))) x)) (e ∙ sym (steady-at level k s h p)))
 
-  pub fade-steady : (t : ChunkTrack) (l : List Float) {y : Amplitude} → isSteady (t .fade) ≡ true → LevelInRange (t .fade) → y ≡ steadyAmplitude (t .fade) → withFrames (volumeScaled (t .volume) y n) n l ≡ withFrames (trackScaled t n) n l
+  -- ---- levels that move: `empty` is what the factors' array held before they were set
+
+  factor-is : (level : Level) (empty : List Float) (i : ℕ) {factors : List Float} → length empty ≡ 256 → factors ≡ withFactors level n empty → i < n → factorOf factors i ≡ levelAmplitude level (amountAt i n)
+  factor-is level empty i w e p = ap (λ (x : Float). record { 0 = x }) (factor-at level n i empty p (omega arith) e)
+
+  pub level-each : (level : Level) (l empty : List Float) {factors : List Float} → length empty ≡ 256 → factors ≡ withFactors level n empty → withFrames (scaledEach factors) n l ≡ withFrames (levelScaled level n) n l
+  unfolding levelScaled
+  level-each level l empty {factors} w e = withFrames-cong (scaledEach factors) (levelScaled level n) n l (λ k p _ a. ap (scaled a) (factor-is level empty k w e p))
+
+  pub send-each : (level : Level) (inputs : List Float) (first : ℕ) (l empty : List Float) {factors : List Float} → length empty ≡ 256 → factors ≡ withFactors level n empty → withFrames (sentEach inputs first factors) n l ≡ withFrames (withSend level n inputs first) n l
+  unfolding withSend sendFrame
+  send-each level inputs first l empty {factors} w e = withFrames-cong (sentEach inputs first factors) (withSend level n inputs first) n l
+      (λ k p _ a. ap (λ (x : Amplitude). added a (scaled (added zeroFrame (frameAt inputs (first + k))) x)) (factor-is level empty k w e p))
+
+  -- a moving volume with a fade that stands still
+  pub volume-each : (t : ChunkTrack) (l empty : List Float) {factors : List Float} {y : Amplitude} → isSteady (t .fade) ≡ true → LevelInRange (t .fade) → y ≡ steadyAmplitude (t .fade) → length empty ≡ 256 → factors ≡ withFactors (t .volume) n empty → withFrames (scaledEachBy factors y) n l ≡ withFrames (trackScaled t n) n l
   unfolding trackScaled trackAmplitude
-  fade-steady t l {y} s h e = withFrames-cong (volumeScaled (t .volume) y n) (trackScaled t n) n l
-      (λ i p _ a. ap (λ (x : Amplitude). scaled a (product (levelAmplitude (t .volume) (amountAt i n)) x)) (e ∙ sym (steady-at (t .fade) i s h p)))
+  volume-each t l empty {factors} {y} s h d w e = withFrames-cong (scaledEachBy factors y) (trackScaled t n) n l
+      (λ i p _ a. ap (scaled a) (ap₂ product (factor-is (t .volume) empty i w e p) (d ∙ sym (steady-at (t .fade) i s h p))))
+
+  -- both move
+  pub track-each : (t : ChunkTrack) (l empty : List Float) {volumes fades : List Float} → length empty ≡ 256 → volumes ≡ withFactors (t .volume) n empty → fades ≡ withFactors (t .fade) n empty → withFrames (scaledTwice volumes fades) n l ≡ withFrames (trackScaled t n) n l
+  unfolding trackScaled trackAmplitude
+  track-each t l empty {volumes} {fades} w e d = withFrames-cong (scaledTwice volumes fades) (trackScaled t n) n l
+      (λ i p _ a. ap (scaled a) (ap₂ product (factor-is (t .volume) empty i w e p) (factor-is (t .fade) empty i w d p)))

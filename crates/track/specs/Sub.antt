@@ -46,9 +46,9 @@ withTrackSends (suc d) c samples line s i a =
 unfoldable pub trackScaled : ChunkTrack → ℕ → ℕ → Frame → Frame
 trackScaled track n i a = scaled a (trackAmplitude track (amountAt i n))
 
--- a track's frames set
-unfoldable pub trackSet : ℕ → Chunk → List Float → ℕ → ℕ → Frame → Frame
-trackSet d c samples line i a = trackFrame d c samples line i
+-- a track's frames added onto a sum
+unfoldable pub withTrack : ℕ → Chunk → List Float → ℕ → ℕ → Frame → Frame
+withTrack d c samples line i a = added a (trackFrame d c samples line i)
 
 -- The inputs of all send tracks stand in one buffer: send track s, counted from 1, has its frames from (s - 1) * 256 on. So frame k
 -- of it is frame k % 256 of send track k / 256 + 1, where the chunk is that long.

@@ -6,19 +6,19 @@ use mathlib.Core.List.{List}
 use Prim.Native.Nat.{ℕ, zero, suc, _+_, _-_, _*_, _≤_, _<_}
 use native.Mathlib.Omega.{arith}
 use lib.Dec.{T, eqb, eqb→eq, eqb-refl}
-use lib.ListN.{length}
+use lib.ListN.{length, replicate, length-replicate}
 use lib.Ieee.{Float}
 use Rattle.laws.specs.Choice.{cond-true, cond-false}
 use Rattle.laws.specs.Loop.{upto, downto}
 use Rattle.track.specs.declared.frame.Frame.{Frame}
 use Rattle.track.specs.declared.chunk.Chunk.{Chunk}
-use Rattle.track.specs.Frame.{withFrames, cleared, zeroFrame, added, scaled, frameAt, addedFrom, addedScaled, placed}
+use Rattle.track.specs.Frame.{none, withFrames, zeroFrame, added, scaled, frameAt, addedFrom, addedScaled, placed}
 use Rattle.track.specs.Chunk.{trackLine, routeLine, amountAt, trackAmplitude}
-use Rattle.track.specs.Sound.{withSounds}
-use Rattle.track.specs.Sub.{overSubTracks, trackFrame, withRoutes, withTrackSends, trackScaled, trackSet, onSends, sendFrames, withRoutesFrom, withSendsOf}
+use Rattle.track.specs.Sound.{addedZero, withSounds}
+use Rattle.track.specs.Sub.{overSubTracks, trackFrame, withRoutes, withTrackSends, trackScaled, withTrack, onSends, sendFrames, withRoutesFrom, withSendsOf}
 use Rattle.track.specs.Picks.{picks-eq, leaves-eq}
-use Rattle.track.specs.FrameLaws.{Step, withFrames-at, withFrames-cong, withFrames-same, withFrames-further, withFrames-twice, placed-above}
-use Rattle.track.specs.TurnLaws.{added-set, step-picked, step-left}
+use Rattle.track.specs.FrameLaws.{Step, withFrames-at, withFrames-cong, withFrames-same, withFrames-further, withFrames-twice, placed-above, silent-at}
+use Rattle.track.specs.TurnLaws.{step-picked, step-left}
 use Rattle.track.specs.SendLaws.{SendStep, onSends-cong, onSends-same, onSends-twice, onSends-upto, onSends-downto, placed-send}
 
 -- ---- routes
@@ -84,11 +84,10 @@ line-of : (j : ℕ) → 0 < j → j ≡ suc (j - 1)
 line-of j h = omega arith
 
 module _ (d : ℕ) (c : Chunk) (samples : List Float) (line j : ℕ) (l : List Float) where
-  pub sub-taken : (from before : List Float) → 0 < j → trackLine c (j - 1) .parent ≡ line → 2 * c .frames ≤ length before → from ≡ withFrames (trackSet d c samples j) (c .frames) before → withFrames (addedFrom from) (c .frames) l ≡ withFrames (subStep d c samples line (j - 1)) (c .frames) l
-  unfolding trackSet
-  sub-taken from before h e w is =
-      added-set from before (trackFrame d c samples j) (c .frames) l w is
-      ∙ ap (λ (k : ℕ). withFrames (λ i x. added x (trackFrame d c samples k i)) (c .frames) l) (line-of j h)
+  pub sub-taken : 0 < j → trackLine c (j - 1) .parent ≡ line → withFrames (withTrack d c samples j) (c .frames) l ≡ withFrames (subStep d c samples line (j - 1)) (c .frames) l
+  unfolding withTrack
+  sub-taken h e =
+      ap (λ (k : ℕ). withFrames (withTrack d c samples k) (c .frames) l) (line-of j h)
       ∙ sym (step-picked (trackLine c (j - 1) .parent) line (λ i x. added x (trackFrame d c samples (suc (j - 1)) i)) (c .frames) l e)
 
   pub sub-left : (trackLine c (j - 1) .parent ≡ line → ⊥) → withFrames (subStep d c samples line (j - 1)) (c .frames) l ≡ l
@@ -121,33 +120,49 @@ module _ (d : ℕ) (c : Chunk) (samples : List Float) (line : ℕ) (l : List Flo
 
 -- ---- a whole track
 
-module _ (depth d : ℕ) (c : Chunk) (samples : List Float) (line : ℕ) (l : List Float) (deep : depth ≡ suc d) where
-  pub track-mixed : {under heard last : List Float} → trackLine c (line - 1) .advancing ≡ true → under ≡ withFrames (subSum d c samples line) (c .frames) (withFrames cleared (c .frames) l) → heard ≡ withFrames (withSounds c samples line) (c .frames) under → last ≡ withFrames (trackScaled (trackLine c (line - 1)) (c .frames)) (c .frames) heard → last ≡ withFrames (trackSet depth c samples line) (c .frames) l
-  unfolding trackSet trackFrame trackScaled
-  track-mixed moves a b e =
+-- the buffer has the track's frames
+abbrev pub HasTrack : ℕ → Chunk → List Float → ℕ → List Float → Type 0
+HasTrack depth c samples line out = (i : ℕ) → i < c .frames → frameAt out i ≡ trackFrame depth c samples line i
+
+pub track-added : (depth : ℕ) (c : Chunk) (samples : List Float) (line : ℕ) (l out : List Float) {last : List Float} → HasTrack depth c samples line out → last ≡ withFrames (addedFrom out) (c .frames) l → last ≡ withFrames (withTrack depth c samples line) (c .frames) l
+unfolding addedFrom withTrack
+track-added depth c samples line l out has e =
+    e ∙ withFrames-cong (addedFrom out) (withTrack depth c samples line) (c .frames) l (λ k p _ a. ap (added a) (has k p))
+
+module _ (depth d : ℕ) (c : Chunk) (samples : List Float) (line : ℕ) (deep : depth ≡ suc d) where
+  -- m zeros, then the tracks below it, its sounds, and volume times fade
+  pub track-mixed : (m : ℕ) {under heard last : List Float} → 2 * c .frames ≤ m → trackLine c (line - 1) .advancing ≡ true → under ≡ withFrames (subSum d c samples line) (c .frames) (replicate m none) → heard ≡ withFrames (withSounds c samples line) (c .frames) under → last ≡ withFrames (trackScaled (trackLine c (line - 1)) (c .frames)) (c .frames) heard → HasTrack depth c samples line last
+  unfolding trackFrame trackScaled
+  track-mixed m w moves a b e i p =
       let n = c .frames in
       let track = trackLine c (line - 1) in
       let u : Step = subSum d c samples line in
       let s : Step = withSounds c samples line in
       let v : Step = trackScaled track n in
-      e
-      ∙ ap (withFrames v n) (b ∙ ap (withFrames s n) (a ∙ withFrames-twice cleared u n l) ∙ withFrames-twice (λ i x. u i zeroFrame) s n l)
-      ∙ withFrames-twice (λ i x. s i (u i zeroFrame)) v n l
-      ∙ withFrames-cong (λ i x. v i (s i (u i zeroFrame))) (trackSet (suc d) c samples line) n l
-      (λ k p q x. sym (cond-true (track .advancing) (scaled (s k (u k zeroFrame)) (trackAmplitude track (amountAt k n))) zeroFrame moves))
-      ∙ ap (λ (z : ℕ). withFrames (trackSet z c samples line) n l) (sym deep)
+      ap (λ (r : List Float). frameAt r i)
+      (e
+      ∙ ap (withFrames v n) (b ∙ ap (withFrames s n) a ∙ withFrames-twice u s n (replicate m none))
+      ∙ withFrames-twice (λ k x. s k (u k x)) v n (replicate m none))
+      ∙ withFrames-at (λ k x. v k (s k (u k x))) n (replicate m none) i p (within i n m (length (replicate m none)) p w (length-replicate m none))
+      ∙ ap (λ (f : Frame). v i (s i (u i f))) (silent-at m i (within i n m m p w refl))
+      ∙ sym (cond-true (track .advancing) (v i (s i (u i zeroFrame))) zeroFrame moves)
+      ∙ ap (λ (z : ℕ). trackFrame z c samples line i) (sym deep)
+    where
+      within : (i n m k : ℕ) → i < n → 2 * n ≤ m → k ≡ m → 2 * i + 1 < k
+      within i n m k p h e = omega arith
 
-  pub track-stopped : trackLine c (line - 1) .advancing ≡ false → withFrames cleared (c .frames) l ≡ withFrames (trackSet depth c samples line) (c .frames) l
-  unfolding trackSet trackFrame
+module _ (depth d : ℕ) (c : Chunk) (samples : List Float) (line : ℕ) (l : List Float) (deep : depth ≡ suc d) where
+  pub track-stopped : trackLine c (line - 1) .advancing ≡ false → withFrames addedZero (c .frames) l ≡ withFrames (withTrack depth c samples line) (c .frames) l
+  unfolding withTrack trackFrame
   track-stopped stops =
       let track = trackLine c (line - 1) in
-      withFrames-cong cleared (trackSet (suc d) c samples line) (c .frames) l
-      (λ k p q x. sym (cond-false (track .advancing) (scaled (withSounds c samples line k (subSum d c samples line k zeroFrame)) (trackAmplitude track (amountAt k (c .frames)))) zeroFrame stops))
-      ∙ ap (λ (z : ℕ). withFrames (trackSet z c samples line) (c .frames) l) (sym deep)
+      withFrames-cong addedZero (withTrack (suc d) c samples line) (c .frames) l
+      (λ k p q x. ap (added x) (sym (cond-false (track .advancing) (scaled (withSounds c samples line k (subSum d c samples line k zeroFrame)) (trackAmplitude track (amountAt k (c .frames)))) zeroFrame stops)))
+      ∙ ap (λ (z : ℕ). withFrames (withTrack z c samples line) (c .frames) l) (sym deep)
 
-  pub sends-mixed : (out before : List Float) {under last : List Float} → trackLine c (line - 1) .advancing ≡ true → 2 * c .frames ≤ length before → out ≡ withFrames (trackSet depth c samples line) (c .frames) before → under ≡ withFrames (subSends d c samples line) sendFrames l → last ≡ withFrames (withRoutesFrom c line out) sendFrames under → last ≡ withFrames (withSendsOf depth c samples line) sendFrames l
-  unfolding withRoutesFrom withSendsOf withTrackSends trackSet
-  sends-mixed out before moves w is a e =
+  pub sends-mixed : (out : List Float) {under last : List Float} → trackLine c (line - 1) .advancing ≡ true → HasTrack depth c samples line out → under ≡ withFrames (subSends d c samples line) sendFrames l → last ≡ withFrames (withRoutesFrom c line out) sendFrames under → last ≡ withFrames (withSendsOf depth c samples line) sendFrames l
+  unfolding withRoutesFrom withSendsOf withTrackSends
+  sends-mixed out moves has a e =
       let n = c .frames in
       let u : SendStep = λ s i x. overSubTracks c line (λ below y. withTrackSends d c samples below s i y) x in
       let v : SendStep = λ s i x. withRoutes c line s (frameAt out i) x in
@@ -157,12 +172,9 @@ module _ (depth d : ℕ) (c : Chunk) (samples : List Float) (line : ℕ) (l : Li
       ∙ withFrames-twice (onSends n u) (onSends n v) sendFrames l
       ∙ withFrames-cong (λ k x. onSends n v k (onSends n u k x)) (onSends n z) sendFrames l
       (λ k p q x. onSends-twice n u v k x ∙ onSends-cong n (λ s i y. v s i (u s i y)) z k x
-      (λ s i h. ap (λ (f : Frame). withRoutes c line s f (u s i x)) (ap (λ (r : List Float). frameAt r i) is ∙ withFrames-at (trackSet depth c samples line) n before i h (inside i n (length before) h w) ∙ ap (λ (y : ℕ). trackFrame y c samples line i) deep)
+      (λ s i h. ap (λ (f : Frame). withRoutes c line s f (u s i x)) (has i h ∙ ap (λ (y : ℕ). trackFrame y c samples line i) deep)
       ∙ sym (cond-true (trackLine c (line - 1) .advancing) (withRoutes c line s (trackFrame (suc d) c samples line i) (u s i x)) x moves)))
       ∙ ap (λ (y : ℕ). withFrames (withSendsOf y c samples line) sendFrames l) (sym deep)
-    where
-      inside : (k n m : ℕ) → k < n → 2 * n ≤ m → 2 * k + 1 < m
-      inside k n m p h = omega arith
 
   pub sends-stopped : trackLine c (line - 1) .advancing ≡ false → l ≡ withFrames (withSendsOf depth c samples line) sendFrames l
   unfolding withSendsOf withTrackSends
@@ -173,11 +185,11 @@ module _ (depth d : ℕ) (c : Chunk) (samples : List Float) (line : ℕ) (l : Li
       ∙ ap (λ (y : ℕ). withFrames (withSendsOf y c samples line) sendFrames l) (sym deep)
 
 module _ (depth : ℕ) (c : Chunk) (samples : List Float) (line : ℕ) (l : List Float) (flat : depth ≡ 0) where
-  pub track-none : withFrames cleared (c .frames) l ≡ withFrames (trackSet depth c samples line) (c .frames) l
-  unfolding trackSet trackFrame
+  pub track-none : withFrames addedZero (c .frames) l ≡ withFrames (withTrack depth c samples line) (c .frames) l
+  unfolding withTrack trackFrame
   track-none =
-      withFrames-cong cleared (trackSet 0 c samples line) (c .frames) l (λ k p q x. refl)
-      ∙ ap (λ (z : ℕ). withFrames (trackSet z c samples line) (c .frames) l) (sym flat)
+      withFrames-cong addedZero (withTrack 0 c samples line) (c .frames) l (λ k p q x. refl)
+      ∙ ap (λ (z : ℕ). withFrames (withTrack z c samples line) (c .frames) l) (sym flat)
 
   pub sends-none : l ≡ withFrames (withSendsOf depth c samples line) sendFrames l
   unfolding withSendsOf withTrackSends

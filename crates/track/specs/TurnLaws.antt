@@ -3,15 +3,14 @@
 use mathlib.Core.Path.{_≡_, refl, sym, ap, _∙_}
 use mathlib.Core.Bool.{Bool, true, false, cond}
 use mathlib.Core.List.{List}
-use Prim.Native.Nat.{ℕ, zero, suc, _+_, _-_, _*_, _≤_, _<_}
-use native.Mathlib.Omega.{arith}
+use Prim.Native.Nat.{ℕ, zero, suc, _+_, _-_, _<_}
 use lib.Dec.{eqb}
 use lib.ListN.{length}
 use lib.Ieee.{Float}
 use Rattle.laws.specs.Loop.{upto, downto, downto-turn, downto-end, upto-turn, upto-end}
 use Rattle.track.specs.declared.frame.Frame.{Frame}
-use Rattle.track.specs.Frame.{withFrames, added, frameAt, addedFrom}
-use Rattle.track.specs.FrameLaws.{Step, withFrames-length, withFrames-cong, withFrames-same, withFrames-at, downto-frames, upto-frames}
+use Rattle.track.specs.Frame.{withFrames}
+use Rattle.track.specs.FrameLaws.{Step, withFrames-length, withFrames-cong, withFrames-same, downto-frames, upto-frames}
 use Rattle.track.specs.Picks.{picks-eq, leaves-eq}
 
 abbrev pub turns : (ℕ → Step) → ℕ → ℕ → List Float → List Float
@@ -62,13 +61,3 @@ module _ (h : ℕ → Frame → Frame) where
   pub downto-test : (b : Bool) (m : ℕ) (a : Frame) → downto (λ j x. cond b (h j x) x) m a ≡ cond b (downto h m a) a
   downto-test true m a = refl
   downto-test false m a = downto-same m a
-
--- a buffer whose frames were set is added
-pub added-set : (from before : List Float) (g : ℕ → Frame) (n : ℕ) (l : List Float) → 2 * n ≤ length before → from ≡ withFrames (λ i a. g i) n before → withFrames (addedFrom from) n l ≡ withFrames (λ i x. added x (g i)) n l
-unfolding addedFrom
-added-set from before g n l h e =
-    withFrames-cong (addedFrom from) (λ i x. added x (g i)) n l
-    (λ k p _ a. ap (added a) (ap (λ (r : List Float). frameAt r k) e ∙ withFrames-at (λ i a. g i) n before k p (inside k n (length before) p h)))
-  where
-    inside : (k n m : ℕ) → k < n → 2 * n ≤ m → 2 * k + 1 < m
-    inside k n m p h = omega arith

@@ -3,7 +3,7 @@
 ghost use mathlib.Core.Path.{_≡_};
 ghost use Prim.Native.Nat.{_≤_, _<_};
 ghost use Rattle.gain_table.specs.GainTable.{IsGainTable};
-ghost use Rattle.track.specs.Chunk.{amountAt, isSteady, steadyAmplitude, levelAmplitudeBy, LevelInRange, IsPart, IsParts};
+ghost use Rattle.track.specs.Chunk.{amountAt, isSteady, steadyAmplitude, withFactors, LevelInRange, IsParts};
 use decibels::Amplitude;
 use decibels::Decibels;
 
@@ -69,16 +69,23 @@ impl Level {
         now.as_amplitude_in(table)
     }
 
-    // At a part of the chunk, which is an amount rounded to f32.
-    pub fn amplitude_by(self, part: f32, table: &[u64; 1345]) -> Amplitude
+    // The amplitudes of a chunk's frames.
+    pub fn amplitudes(
+        self,
+        frames: usize,
+        parts: &[f32; 256],
+        table: &[u64; 1345],
+        factors: &mut [f32; 256],
+    )
         requires { ⌜ IsGainTable (now table) ⌝ }
         requires { ⌜ LevelInRange self ⌝ }
-        requires { ⌜ IsPart part ⌝ }
-        ensures { λ r. ⌜ r ≡ levelAmplitudeBy self part ⌝ }
+        requires { ⌜ frames ≤ 256 ⌝ }
+        requires { ⌜ IsParts frames (now parts) ⌝ }
+        ensures { λ _. ⌜ now (factors .exit) ≡ withFactors self frames (now (factors .entry)) ⌝ }
     {
         let before = self.before;
-        let now = self.now;
-        Decibels(before.0 + (now.0 - before.0) * part).as_amplitude_in(table)
+        let after = self.now;
+        fade::amplitudes(before, after, frames, parts, table, factors);
     }
 }
 

@@ -17,7 +17,6 @@ use crate::flat::flatten;
 use crate::flat::main_level;
 use crate::flat::send_at;
 use crate::flat::track_at;
-use crate::frame::add_frames;
 use crate::frame::clear;
 use crate::send::add_send;
 use crate::send::apply_level;
@@ -52,19 +51,7 @@ fn process_tracks(
     while 0 < j {
         let track = track_at(places, values, j - 1);
         if track.parent == 0 {
-            let mut temp = [0.0f32; 512];
-            sub::process(
-                places,
-                values,
-                parts,
-                table,
-                samples,
-                j,
-                LEVELS,
-                &mut temp,
-                sends,
-            );
-            add_frames(out, &temp, frames);
+            sub::process(places, values, parts, table, samples, j, LEVELS, out, sends);
         }
         j -= 1;
     }

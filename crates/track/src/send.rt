@@ -13,6 +13,7 @@ use crate::frame::Frame;
 use crate::frame::frame_at;
 use crate::frame::put_frame;
 use crate::frame::scale;
+use decibels::Amplitude;
 
 // Scales each frame by one level.
 pub fn apply_level(
@@ -33,10 +34,11 @@ pub fn apply_level(
         scale(out, frames, factor);
         return;
     }
+    let mut factors = [0.0f32; 256];
+    level.amplitudes(frames, parts, table, &mut factors);
     let mut i = 0;
     while i < frames {
-        let factor = level.amplitude_by(parts[i], table);
-        let frame = frame_at(out, i).scaled(factor);
+        let frame = frame_at(out, i).scaled(Amplitude(factors[i]));
         put_frame(out, i, frame);
         i += 1;
     }
@@ -89,11 +91,12 @@ pub fn add_send(
         add_steady_send(out, inputs, first, level, frames, table);
         return;
     }
+    let mut factors = [0.0f32; 256];
+    level.amplitudes(frames, parts, table, &mut factors);
     let mut i = 0;
     while i < frames {
-        let factor = level.amplitude_by(parts[i], table);
         let input = Frame::zero().added(frame_at(inputs, first + i));
-        let frame = input.scaled(factor);
+        let frame = input.scaled(Amplitude(factors[i]));
         put_frame(out, i, frame_at(out, i).added(frame));
         i += 1;
     }

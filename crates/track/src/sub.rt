@@ -7,7 +7,7 @@ ghost use Rattle.gain_table.specs.GainTable.{IsGainTable};
 ghost use Rattle.track.specs.Frame.{withFrames};
 ghost use Rattle.track.specs.Chunk.{ChunkOk, isSteady, LevelInRange, IsParts};
 ghost use Rattle.track.specs.Flat.{chunkFrom};
-ghost use Rattle.track.specs.Sub.{trackScaled, trackSet, withRoutesFrom, withSendsOf, sendFrames};
+ghost use Rattle.track.specs.Sub.{trackScaled, withTrack, withRoutesFrom, withSendsOf, sendFrames};
 use crate::chunk::ChunkTrack;
 use crate::flat::FRAMES;
 use crate::flat::ROUTE_COUNT;
@@ -16,10 +16,10 @@ use crate::flat::route_at;
 use crate::flat::track_at;
 use crate::frame::add_frames;
 use crate::frame::add_scaled;
-use crate::frame::clear;
 use crate::frame::frame_at;
 use crate::frame::put_frame;
 use crate::frame::scale;
+use crate::sound::add_silence;
 use crate::sound::add_sounds;
 use decibels::Amplitude;
 
@@ -45,10 +45,11 @@ fn apply_moving_volume(
     let volume = track.volume;
     let fade = track.fade;
     let by = fade.steady_amplitude(table);
+    let mut factors = [0.0f32; 256];
+    volume.amplitudes(frames, parts, table, &mut factors);
     let mut i = 0;
     while i < frames {
-        let a = volume.amplitude_by(parts[i], table);
-        let frame = frame_at(out, i).scaled(Amplitude(a.0 * by.0));
+        let frame = frame_at(out, i).scaled(Amplitude(factors[i] * by.0));
         put_frame(out, i, frame);
         i += 1;
     }
@@ -70,12 +71,13 @@ fn apply_moving(
 {
     let volume = track.volume;
     let fade = track.fade;
+    let mut volumes = [0.0f32; 256];
+    let mut fades = [0.0f32; 256];
+    volume.amplitudes(frames, parts, table, &mut volumes);
+    fade.amplitudes(frames, parts, table, &mut fades);
     let mut i = 0;
     while i < frames {
-        let part = parts[i];
-        let a = volume.amplitude_by(part, table);
-        let b = fade.amplitude_by(part, table);
-        let frame = frame_at(out, i).scaled(Amplitude(a.0 * b.0));
+        let frame = frame_at(out, i).scaled(Amplitude(volumes[i] * fades[i]));
         put_frame(out, i, frame);
         i += 1;
     }
@@ -137,8 +139,8 @@ fn add_routes(
     }
 }
 
-// Sets `out` to the frames of track `line`, counted from 1, and adds to the send tracks what it and
-// the tracks below it send. `depth` is how many levels of tracks are left.
+// Adds the frames of track `line`, counted from 1, onto the sum `to`, and to the send tracks what it
+// and the tracks below it send. `depth` is how many levels of tracks are left.
 pub fn process(
     places: &[usize; 389],
     values: &[f32; 210],
@@ -147,32 +149,33 @@ pub fn process(
     samples: &[f32],
     line: usize,
     depth: usize,
-    out: &mut [f32],
+    to: &mut [f32],
     sends: &mut [f32],
 )
     requires { ⌜ IsGainTable (now table) ⌝ }
     requires { ⌜ ChunkOk (chunkFrom (now places) (now values)) (now samples) ⌝ }
     requires { ⌜ IsParts (chunkFrom (now places) (now values) .frames) (now parts) ⌝ }
     requires { ⌜ (1 ≤ line) × (line ≤ chunkFrom (now places) (now values) .«track_count») ⌝ }
-    requires { ⌜ 2 * chunkFrom (now places) (now values) .frames ≤ length (now out) ⌝ }
+    requires { ⌜ 2 * chunkFrom (now places) (now values) .frames ≤ length (now to) ⌝ }
     requires { ⌜ length (now sends) ≡ 2 * sendFrames ⌝ }
-    ensures frames { λ _. ⌜ now (out .exit) ≡ withFrames (trackSet depth (chunkFrom (now (places .entry)) (now (values .entry))) (now (samples .entry)) line) (chunkFrom (now (places .entry)) (now (values .entry)) .frames) (now (out .entry)) ⌝ }
+    ensures frames { λ _. ⌜ now (to .exit) ≡ withFrames (withTrack depth (chunkFrom (now (places .entry)) (now (values .entry))) (now (samples .entry)) line) (chunkFrom (now (places .entry)) (now (values .entry)) .frames) (now (to .entry)) ⌝ }
     ensures sends { λ _. ⌜ now (sends .exit) ≡ withFrames (withSendsOf depth (chunkFrom (now (places .entry)) (now (values .entry))) (now (samples .entry)) line) sendFrames (now (sends .entry)) ⌝ }
 {
     let frames = places[FRAMES];
-    clear(out, frames);
     let track = track_at(places, values, line - 1);
     if depth == 0 {
+        add_silence(to, 0, frames);
         return;
     }
     if !track.advancing {
+        add_silence(to, 0, frames);
         return;
     }
+    let mut out = [0.0f32; 512];
     let mut j = places[TRACK_COUNT];
     while 0 < j {
         let below = track_at(places, values, j - 1);
         if below.parent == line {
-            let mut temp = [0.0f32; 512];
             process(
                 places,
                 values,
@@ -181,14 +184,14 @@ pub fn process(
                 samples,
                 j,
                 depth - 1,
-                &mut temp,
+                &mut out,
                 sends,
             );
-            add_frames(out, &temp, frames);
         }
         j -= 1;
     }
-    add_sounds(out, samples, places, values, line);
-    apply_volume(out, track, frames, parts, table);
-    add_routes(sends, out, places, values, samples, line);
+    add_sounds(&mut out, samples, places, values, line);
+    apply_volume(&mut out, track, frames, parts, table);
+    add_routes(sends, &out, places, values, samples, line);
+    add_frames(to, &out, frames);
 }

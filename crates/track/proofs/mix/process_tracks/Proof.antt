@@ -4,15 +4,15 @@ use mathlib.Core.List.{List}
 use Prim.Native.Nat.{ℕ, _-_, _≤_}
 use native.Mathlib.Nat.{le-refl}
 use native.Mathlib.Omega.{arith}
-use lib.ListN.{length, replicate, length-replicate}
-use lib.Ieee.{Float, binary32, ofBits}
+use lib.ListN.{length}
+use lib.Ieee.{Float}
 use borrow.Author.Needs.{needs}
 use Rattle.laws.specs.Loop.{downto}
 use Rattle.track.specs.declared.chunk.Chunk.{Chunk}
 use Rattle.track.specs.declared.chunk.ChunkTrack.{ChunkTrack}
 use Rattle.track.specs.Frame.{withFrames, cleared}
 use Rattle.track.specs.Flat.{chunkFrom}
-use Rattle.track.specs.Sub.{sendFrames, trackSet}
+use Rattle.track.specs.Sub.{sendFrames}
 use Rattle.track.specs.Mix.{levels}
 use Rattle.track.specs.FrameLaws.{kept}
 use Rattle.track.specs.TurnLaws.{turns, turn-length, down-turn, down-done}
@@ -23,13 +23,8 @@ use Rattle.track.proofs.mix.process_tracks.Tie as tie
 use Rattle.track.proofs.mix.process_tracks.Reads as reads
 use Rattle.track.proofs.mix.process_tracks.Lts as lts
 use Rattle.track.proofs.flat.track_at.Reads as track-at-reads
-use Rattle.track.proofs.frame.add_frames.Reads as add-frames-reads
 use Rattle.track.proofs.frame.clear.Reads as clear-reads
 use Rattle.track.proofs.sub.process.Reads as process-reads
-
--- what a track is mixed into
-abbrev silent : List Float
-silent = replicate 512 (ofBits binary32 0)
 
 abbrev Inv : Chunk → List Float → List Float → List Float → List Float → List Float → ℕ → Type 0
 Inv chunk samples out₀ sends₀ out sends j = (j ≤ chunk .«track_count») × (length out ≡ length out₀) × (length sends ≡ length sends₀) × (downto (turns (subStep levels chunk samples 0) (chunk .frames)) j out ≡ downto (turns (subStep levels chunk samples 0) (chunk .frames)) (chunk .«track_count») out₀) × (downto (turns (subSend levels chunk samples 0) sendFrames) j sends ≡ downto (turns (subSend levels chunk samples 0) sendFrames) (chunk .«track_count») sends₀)
@@ -40,68 +35,50 @@ Inv-loop places values parts table samples out₀ sends₀ frames j₀ out sends
 abbrev μ-loop : tie.MeasureT-loop
 μ-loop places values parts table samples out₀ sends₀ frames j₀ out sends j = j
 
--- src/mix.rt:49:18
+-- src/mix.rt:48:18
 element-copy-out-frames : tie.Need-element-copy-out-frames Inv-loop μ-loop
 element-copy-out-frames c = search needs
 
--- src/mix.rt:50:5
+-- src/mix.rt:49:5
 clear-requires : tie.Need-clear-requires Inv-loop μ-loop
 clear-requires c κs = search needs
 
--- src/mix.rt:51:17
+-- src/mix.rt:50:17
 element-copy-out-j : tie.Need-element-copy-out-j Inv-loop μ-loop
 element-copy-out-j c = search needs
 
--- src/mix.rt:52:5
+-- src/mix.rt:51:5
 loop-holds : tie.Need-loop-holds Inv-loop μ-loop
 loop-holds c = (le-refl _, refl, refl, refl, refl)
 
--- src/mix.rt:53:46
+-- src/mix.rt:52:46
 sub-track-at : tie.Need-sub-track-at Inv-loop μ-loop
 sub-track-at c = search needs
 
--- src/mix.rt:53:13
+-- src/mix.rt:52:13
 track-at-requires : tie.Need-track-at-requires Inv-loop μ-loop
 track-at-requires c κs = omega (arith, c .loop-test .taken, c .before .loop .inv .0, c .before .before .before .before .before .before .before .before .before .before .before .pre .1 .0 .tracks)
 
--- src/mix.rt:56:76
-slice-aggregate-process : tie.Need-slice-aggregate-process Inv-loop μ-loop
-slice-aggregate-process c = search needs
-
--- src/mix.rt:56:13
+-- src/mix.rt:54:13
 process-requires : tie.Need-process-requires Inv-loop μ-loop
 process-requires c κs =
     let start = c .before .before .before .before .before .before .before .before .before .before .before .before .before .before .before .before in
-    let ok = start .pre .1 .0 in
-    let l = c .before .before .before .before .before .before in
-    (start .pre .0, (ok, (start .pre .1 .1 .0, ((c .before .before .before .before .before .loop-test .taken, l .loop .inv .0), (omega (arith, ok .short), l .loop .inv .2 ∙ start .pre .1 .1 .1 .1)))))
-
--- src/mix.rt:57:29
-slice-aggregate-add-frames : tie.Need-slice-aggregate-add-frames Inv-loop μ-loop
-slice-aggregate-add-frames c = search needs
-
--- src/mix.rt:57:13
-add-frames-requires : tie.Need-add-frames-requires Inv-loop μ-loop
-add-frames-requires c κs =
-    let start = c .before .before .before .before .before .before .before .before .before .before .before .before .before .before .before .before .before .before .before .before .before .before in
     let args = start .args in
     let chunk = chunkFrom (args .places .now) (args .values .now) in
-    let samples = args .samples .now in
     let ok = start .pre .1 .0 in
-    let l = c .before .before .before .before .before .before .before .before .before .before .before .before in
-    let cleared-length = kept cleared (chunk .frames) (args .out .now) (c .before .before .before .before .before .before .before .before .before .before .before .before .before .before .before .before .clear .ensures) in
-    let set-length = kept (trackSet levels chunk samples (l .loop .j)) (chunk .frames) silent (c .before .before .before .before .before .process .ensures .0) ∙ length-replicate 512 (ofBits binary32 0) in
-    (omega (arith, l .loop .inv .1, start .pre .1 .1 .1 .0, cleared-length), omega (arith, ok .short, set-length))
+    let inv = c .before .before .before .before .before .before .loop .inv in
+    let cleared-length = kept cleared (chunk .frames) (args .out .now) (c .before .before .before .before .before .before .before .before .before .before .clear .ensures) in
+    (start .pre .0, (ok, (start .pre .1 .1 .0, ((c .before .before .before .before .before .loop-test .taken, inv .0), (omega (arith, inv .1, cleared-length, start .pre .1 .1 .1 .0), inv .2 ∙ start .pre .1 .1 .1 .1)))))
 
--- src/mix.rt:59:9
+-- src/mix.rt:56:9
 sub-j : tie.Need-sub-j Inv-loop μ-loop
 sub-j c = search needs
 
--- src/mix.rt:52:5
+-- src/mix.rt:51:5
 loop-less : tie.Need-loop-less Inv-loop μ-loop
 loop-less c = search needs
 
--- src/mix.rt:52:5
+-- src/mix.rt:51:5
 loop-again : tie.Need-loop-again Inv-loop μ-loop
 loop-again c =
     let start = c .before .before .before .before .before .before .before .before .before .before .before .before .before .before in
@@ -117,11 +94,11 @@ loop-again c =
     let g = subStep levels chunk samples 0 in
     let q = subSend levels chunk samples 0 in
     let e : c .if1 .out ≡ withFrames (g (j - 1)) n (l .loop .out) = ⊎-elim
-    (λ w. w .12 ∙ w .9 .ensures ∙ sub-taken levels chunk samples 0 j (l .loop .out) (w .3 .last .1 .1 .1 .1 .1 .1 .1 .0) silent h (sym parent ∙ w .0 .taken) (omega (arith, start .pre .1 .0 .short, length-replicate 512 (ofBits binary32 0))) (w .3 .ensures .0))
+    (λ w. w .8 ∙ w .3 .ensures .0 ∙ sub-taken levels chunk samples 0 j (l .loop .out) h (sym parent ∙ w .0 .taken))
     (λ w. w .1 ∙ sym (sub-left levels chunk samples 0 j (l .loop .out) (λ p. w .0 .left (parent ∙ p))))
     (c .if1 .came) in
     let f : c .if1 .sends ≡ withFrames (q (j - 1)) sendFrames (l .loop .sends) = ⊎-elim
-    (λ w. w .13 ∙ w .3 .ensures .1 ∙ send-taken levels chunk samples 0 j (l .loop .sends) h (sym parent ∙ w .0 .taken))
+    (λ w. w .9 ∙ w .3 .ensures .1 ∙ send-taken levels chunk samples 0 j (l .loop .sends) h (sym parent ∙ w .0 .taken))
     (λ w. w .2 ∙ sym (send-left levels chunk samples 0 j (l .loop .sends) (λ p. w .0 .left (parent ∙ p))))
     (c .if1 .came) in
     let out = c .before .before .before .before .before .before .before .before .clear .last .0 in (
@@ -132,28 +109,28 @@ loop-again c =
       down-turn q sendFrames (args .sends .now) (l .loop .sends) j h (inv .4) f,
     )
 
--- src/mix.rt:32:1
+-- src/mix.rt:31:1
 same-length : tie.Need-same-length Inv-loop μ-loop
 same-length c = search needs
 
--- src/mix.rt:32:1
+-- src/mix.rt:31:1
 same-length-2 : tie.Need-same-length-2 Inv-loop μ-loop
 same-length-2 c = search needs
 
--- src/mix.rt:32:1
+-- src/mix.rt:31:1
 returns : tie.Need-returns Inv-loop μ-loop
 returns c =
     let start = c .before .before .before .before .before .before .before .before .before .before .before in
     let args = start .args in
     let chunk = chunkFrom (args .places .now) (args .values .now) in
     let samples = args .samples .now in
-    let l = c .before in
+    let inv = c .before .loop .inv in
     let n = chunk .frames in
     let g = subStep levels chunk samples 0 in
     let q = subSend levels chunk samples 0 in
     let out = c .before .before .before .before .before .clear .last .0 in
-    let under = down-done g n (chunk .«track_count») out (omega (arith, c .loop-test .left)) (l .loop .inv .3) ∙ sub-done levels chunk samples 0 out ∙ ap (withFrames (subSum levels chunk samples 0) n) (c .before .before .before .before .before .clear .ensures) in
-    let sent = down-done q sendFrames (chunk .«track_count») (args .sends .now) (omega (arith, c .loop-test .left)) (l .loop .inv .4) ∙ send-done levels chunk samples 0 (args .sends .now) in
+    let under = down-done g n (chunk .«track_count») out (omega (arith, c .loop-test .left)) (inv .3) ∙ sub-done levels chunk samples 0 out ∙ ap (withFrames (subSum levels chunk samples 0) n) (c .before .before .before .before .before .clear .ensures) in
+    let sent = down-done q sendFrames (chunk .«track_count») (args .sends .now) (omega (arith, c .loop-test .left)) (inv .4) ∙ send-done levels chunk samples 0 (args .sends .now) in
     (tracks-mixed chunk samples (args .out .now) under, sent ∙ all-sends chunk samples (args .sends .now))
 
 pub process-tracks-spec : {M : Type 1} → statement M
@@ -168,10 +145,7 @@ process-tracks-spec =
     loop-holds
     sub-track-at
     track-at-requires
-    slice-aggregate-process
     process-requires
-    slice-aggregate-add-frames
-    add-frames-requires
     sub-j
     loop-less
     loop-again

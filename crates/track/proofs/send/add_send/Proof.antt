@@ -1,17 +1,19 @@
-use mathlib.Core.Path.{_≡_, refl, sym, ap₂, _∙_}
+use mathlib.Core.Path.{_≡_, refl, sym, ap, ap₂, _∙_}
+use mathlib.Core.List.{List}
 use Prim.Native.Nat.{_-_, _≤_}
 use native.Mathlib.Omega.{arith}
-use lib.ListN.{length}
+use lib.ListN.{length, replicate, length-replicate}
+use lib.Ieee.{Float, binary32, ofBits}
 use borrow.Author.Needs.{needs}
+use Rattle.track.specs.declared.frame.Frame.{Frame}
 use Rattle.track.specs.Frame.{withFrames, added, scaled}
-use Rattle.track.specs.Send.{withSend, sendFrame}
-use Rattle.track.specs.ChunkLaws.{parts-is, parts-amplitude}
 use Rattle.track.specs.FrameLaws.{withFrames-zero, withFrames-put, withFrames-end}
+use Rattle.track.specs.SteadyLaws.{factorOf, sentEach, send-each}
 use Rattle.track.proofs.send.add_send.Statement.{statement}
 use Rattle.track.proofs.send.add_send.Tie as tie
 use Rattle.track.proofs.send.add_send.Reads as reads
 use Rattle.track.proofs.send.add_send.Lts as lts
-use Rattle.track.proofs.chunk.Level.amplitude_by.Reads as amplitude-by-reads
+use Rattle.track.proofs.chunk.Level.amplitudes.Reads as amplitudes-reads
 use Rattle.track.proofs.chunk.Level.is_steady.Reads as is-steady-reads
 use Rattle.track.proofs.frame.Frame.added.Reads as added-reads
 use Rattle.track.proofs.frame.Frame.scaled.Reads as scaled-reads
@@ -20,115 +22,119 @@ use Rattle.track.proofs.frame.frame_at.Reads as frame-at-reads
 use Rattle.track.proofs.frame.put_frame.Reads as put-frame-reads
 use Rattle.track.proofs.send.add_steady_send.Reads as add-steady-send-reads
 
+-- what the factors' array holds at first
+abbrev empty : List Float
+empty = replicate 256 (ofBits binary32 0)
+
 abbrev Inv-loop : tie.InvT-loop
-Inv-loop out₀ inputs first level frames parts table i₀ out i = (i ≤ frames) × (length out ≡ length out₀) × (out ≡ withFrames (withSend level frames inputs first) i out₀)
+Inv-loop out₀ inputs first frames parts table factors i₀ out i = (i ≤ frames) × (length out ≡ length out₀) × (out ≡ withFrames (sentEach inputs first factors) i out₀)
 
 abbrev μ-loop : tie.MeasureT-loop
-μ-loop out₀ inputs first level frames parts table i₀ out i = frames - i
+μ-loop out₀ inputs first frames parts table factors i₀ out i = frames - i
 
--- src/send.rt:88:8
+-- src/send.rt:90:8
 is-steady-requires : tie.Need-is-steady-requires Inv-loop μ-loop
 is-steady-requires c κs = search needs
 
--- src/send.rt:89:9
+-- src/send.rt:91:9
 add-steady-send-requires : tie.Need-add-steady-send-requires Inv-loop μ-loop
 add-steady-send-requires c κs =
     let pre = c .before .before .before .before .before .pre in
     (pre .0, (pre .1 .0, (pre .1 .1 .0, (pre .1 .1 .1 .0, sym (c .before .before .is-steady .ensures) ∙ c .before .if1 .taken))))
 
--- src/send.rt:90:9
+-- src/send.rt:92:9
 same-length : tie.Need-same-length Inv-loop μ-loop
 same-length c = search needs
 
--- src/send.rt:90:9
+-- src/send.rt:92:9
 returns : tie.Need-returns Inv-loop μ-loop
 returns c = search needs
 
--- src/send.rt:93:5
+-- src/send.rt:95:5
+amplitudes-requires : tie.Need-amplitudes-requires Inv-loop μ-loop
+amplitudes-requires c κs =
+    let pre = c .before .before .before .before .before .pre in
+    (pre .0, (pre .1 .1 .1 .0, (pre .1 .0 .0, pre .1 .1 .1 .1)))
+
+-- src/send.rt:97:5
 loop-holds : tie.Need-loop-holds Inv-loop μ-loop
 loop-holds c = (search needs, refl, sym (withFrames-zero _ _))
 
--- src/send.rt:94:41
-mul-amplitude-by : tie.Need-mul-amplitude-by Inv-loop μ-loop
-mul-amplitude-by c = search needs
-
--- src/send.rt:94:41
-element-copy-out-amplitude-by : tie.Need-element-copy-out-amplitude-by Inv-loop μ-loop
-element-copy-out-amplitude-by c = search needs
-
--- src/send.rt:94:13
-amplitude-by-requires : tie.Need-amplitude-by-requires Inv-loop μ-loop
-amplitude-by-requires c κs =
-    let l = c .before .before in
-    let start = l .before .before .before .before .before in
-    let args = start .args in
-    (start .pre .0, (start .pre .1 .1 .1 .0, parts-is (args .frames) (l .loop .i) (args .parts .now) (start .pre .1 .1 .1 .1) (c .before .loop-test .taken) (start .pre .1 .0 .0)))
-
--- src/send.rt:95:21
+-- src/send.rt:98:21
 zero-requires : tie.Need-zero-requires Inv-loop μ-loop
 zero-requires c κs = search needs
 
--- src/send.rt:95:58
+-- src/send.rt:98:58
 add-frame-at : tie.Need-add-frame-at Inv-loop μ-loop
 add-frame-at c = search needs
 
--- src/send.rt:95:41
+-- src/send.rt:98:41
 frame-at-requires : tie.Need-frame-at-requires Inv-loop μ-loop
 frame-at-requires c κs = search needs
 
--- src/send.rt:95:13
+-- src/send.rt:98:13
 added-requires : tie.Need-added-requires Inv-loop μ-loop
 added-requires c κs = search needs
 
--- src/send.rt:96:13
+-- src/send.rt:99:44
+mul-t21 : tie.Need-mul-t21 Inv-loop μ-loop
+mul-t21 c = search needs
+
+-- src/send.rt:99:44
+array-read-t24 : tie.Need-array-read-t24 Inv-loop μ-loop
+array-read-t24 c = search needs
+
+-- src/send.rt:99:13
 scaled-requires : tie.Need-scaled-requires Inv-loop μ-loop
 scaled-requires c κs = search needs
 
--- src/send.rt:97:27
+-- src/send.rt:100:27
 frame-at-requires-2 : tie.Need-frame-at-requires-2 Inv-loop μ-loop
 frame-at-requires-2 c κs = search needs
 
--- src/send.rt:97:27
+-- src/send.rt:100:27
 added-requires-2 : tie.Need-added-requires-2 Inv-loop μ-loop
 added-requires-2 c κs = search needs
 
--- src/send.rt:97:9
+-- src/send.rt:100:9
 put-frame-requires : tie.Need-put-frame-requires Inv-loop μ-loop
-put-frame-requires c κs = omega (arith, c .before .before .before .before .before .before .before .before .before .before .loop-test .taken, c .before .before .before .before .before .before .before .before .before .before .before .loop .inv .1, c .before .before .before .before .before .before .before .before .before .before .before .before .before .before .before .before .pre .1 .0 .1)
+put-frame-requires c κs = omega (arith, c .before .before .before .before .before .before .before .before .loop-test .taken, c .before .before .before .before .before .before .before .before .before .loop .inv .1, c .before .before .before .before .before .before .before .before .before .before .before .before .before .before .before .before .pre .1 .0 .1)
 
--- src/send.rt:98:9
+-- src/send.rt:101:9
 add-i : tie.Need-add-i Inv-loop μ-loop
-add-i c = search (needs, c .before .before .before .before .before .before .before .before .before .before .before .before .before .loop-test .taken, c .before .before .before .before .before .before .before .before .before .before .before .before .before .before .before .before .before .before .before .pre .1 .0 .0)
+add-i c = search (needs, c .before .before .before .before .before .before .before .before .before .before .before .loop-test .taken, c .before .before .before .before .before .before .before .before .before .before .before .before .before .before .before .before .before .before .before .pre .1 .0 .0)
 
--- src/send.rt:93:5
+-- src/send.rt:97:5
 loop-less : tie.Need-loop-less Inv-loop μ-loop
 loop-less c = search needs
 
--- src/send.rt:93:5
+-- src/send.rt:97:5
 loop-again : tie.Need-loop-again Inv-loop μ-loop
-unfolding withSend sendFrame
 loop-again c =
-    let l = c .before .before .before .before .before .before .before .before .before .before .before .before .before .before in
-    let start = l .before .before .before .before .before in
+    let l = c .before .before .before .before .before .before .before .before .before .before .before .before in
+    let start = c .before .before .before .before .before .before .before .before .before .before .before .before .before .before .before .before .before .before .before in
     let args = start .args in
-    let h = c .before .before .before .before .before .before .before .before .before .before .before .before .before .loop-test .taken in
+    let h = c .before .before .before .before .before .before .before .before .before .before .before .loop-test .taken in
     let inv = l .loop .inv in
+    let factors = l .before .amplitudes .last .1 .1 .1 .1 .0 in
     let input = c .before .before .before .before .before .before .before .before .added .ensures ∙ ap₂ added (c .before .before .before .before .before .before .before .before .before .before .zero .ensures) (c .before .before .before .before .before .before .before .before .before .frame-at .ensures) in
-    let factor = c .before .before .before .before .before .before .before .before .before .before .before .amplitude-by .ensures ∙ parts-amplitude (args .frames) (l .loop .i) (args .parts .now) (start .pre .1 .1 .1 .1) h (args .level) in
-    let frame = c .before .before .before .before .before .before .before .scaled .ensures ∙ ap₂ scaled input factor in
-    let e = withFrames-put (withSend (args .level) (args .frames) (args .inputs .now) (args .first)) (l .loop .i) (args .out .now) (omega (arith, h, start .pre .1 .0 .1)) (inv .1) (inv .2) (c .before .before .before .added2 .ensures ∙ ap₂ added (c .before .before .before .before .frame-at2 .ensures) frame) (c .before .before .put-frame .ensures) in
+    let frame = c .before .before .before .before .before .before .before .scaled .ensures ∙ ap (λ (a : Frame). scaled a (factorOf factors (l .loop .i))) input in
+    let e = withFrames-put (sentEach (args .inputs .now) (args .first) factors) (l .loop .i) (args .out .now) (omega (arith, h, start .pre .1 .0 .1)) (inv .1) (inv .2) (c .before .before .before .added2 .ensures ∙ ap₂ added (c .before .before .before .before .frame-at2 .ensures) frame) (c .before .before .put-frame .ensures) in
     (omega (arith, h, inv .0), e .0, e .1)
 
--- src/send.rt:72:1
+-- src/send.rt:74:1
 same-length-2 : tie.Need-same-length-2 Inv-loop μ-loop
 same-length-2 c = search needs
 
--- src/send.rt:72:1
+-- src/send.rt:74:1
 returns-2 : tie.Need-returns-2 Inv-loop μ-loop
 returns-2 c =
     let l = c .before in
-    let args = l .before .before .before .before .before .args in
-    withFrames-end (withSend (args .level) (args .frames) (args .inputs .now) (args .first)) (args .out .now) (omega (arith, c .loop-test .left, l .loop .inv .0)) (l .loop .inv .2)
+    let start = c .before .before .before .before .before .before .before .before in
+    let args = start .args in
+    let made = l .before .amplitudes in
+    withFrames-end (sentEach (args .inputs .now) (args .first) (made .last .1 .1 .1 .1 .0)) (args .out .now) (omega (arith, c .loop-test .left, l .loop .inv .0)) (l .loop .inv .2)
+    ∙ send-each (args .frames) (start .pre .1 .0 .0) (args .level) (args .inputs .now) (args .first) (args .out .now) empty (length-replicate 256 (ofBits binary32 0)) (made .ensures)
 
 pub add-send-spec : {M : Type 1} → statement M
 add-send-spec =
@@ -140,14 +146,14 @@ add-send-spec =
     add-steady-send-requires
     same-length
     returns
+    amplitudes-requires
     loop-holds
-    mul-amplitude-by
-    element-copy-out-amplitude-by
-    amplitude-by-requires
     zero-requires
     add-frame-at
     frame-at-requires
     added-requires
+    mul-t21
+    array-read-t24
     scaled-requires
     frame-at-requires-2
     added-requires-2

@@ -1,25 +1,25 @@
 use mathlib.Core.Path.{_≡_, refl, sym, ap, _∙_, subst}
 use mathlib.Core.Bool.{Bool, true, false, not}
 use mathlib.Core.Logic.{⊎-elim}
-use Prim.Native.Nat.{suc, _-_, _≤_}
+use mathlib.Core.List.{List}
+use Prim.Native.Nat.{suc, _-_, _≤_, zero-le}
 use native.Mathlib.Nat.{le-refl}
 use native.Mathlib.Omega.{arith}
-use lib.ListN.{length, replicate, length-replicate}
+use lib.ListN.{length, replicate}
+use lib.Ieee.{Float, ofBits, ofInt}
 use borrow.Author.Needs.{needs}
 use Rattle.laws.specs.Loop.{downto}
 use Rattle.track.specs.declared.chunk.Chunk.{Chunk}
 use Rattle.track.specs.declared.chunk.ChunkTrack.{ChunkTrack}
 use Rattle.track.specs.declared.chunk.Level.{Level}
-use Rattle.track.specs.Frame.{withFrames, cleared}
+use Rattle.track.specs.Frame.{none, withFrames}
 use Rattle.track.specs.Chunk.{trackLine, LevelInRange}
 use Rattle.track.specs.Flat.{chunkFrom}
-use Rattle.track.specs.Sub.{sendFrames, trackScaled, trackSet}
-use mathlib.Core.List.{List}
-use lib.Ieee.{Float, binary32, ofBits}
-use Rattle.track.specs.Sound.{withSounds}
-use Rattle.track.specs.FrameLaws.{kept}
+use Rattle.track.specs.Sound.{addedZero, withSounds}
+use Rattle.track.specs.Sub.{sendFrames, trackScaled}
+use Rattle.track.specs.FrameLaws.{kept, placed-all}
 use Rattle.track.specs.TurnLaws.{turns, turn-length, down-turn, down-done}
-use Rattle.track.specs.SubLaws.{subStep, subSend, sub-taken, sub-left, send-taken, send-left, sub-done, send-done, subSum, track-mixed, track-stopped, track-none, sends-mixed, sends-stopped, sends-none}
+use Rattle.track.specs.SubLaws.{subStep, subSend, sub-taken, sub-left, send-taken, send-left, sub-done, send-done, track-added, track-mixed, track-stopped, track-none, sends-mixed, sends-stopped, sends-none}
 use Prim.Native.Nat.{ℕ, _<_}
 use borrow.Fn.Kinds.{In}
 use borrow.Fn.PlainCycle.{Measures, is, falls, and}
@@ -28,16 +28,16 @@ use Rattle.track.proofs.sub.process.Kinds as process-kinds
 use Rattle.track.proofs.sub.+process.Lts-process as process-lts
 use Rattle.track.proofs.flat.track_at.Reads as track-at-reads
 use Rattle.track.proofs.frame.add_frames.Reads as add-frames-reads
-use Rattle.track.proofs.frame.clear.Reads as clear-reads
+use Rattle.track.proofs.sound.add_silence.Reads as add-silence-reads
 use Rattle.track.proofs.sound.add_sounds.Reads as add-sounds-reads
 use Rattle.track.proofs.sub.add_routes.Reads as add-routes-reads
 use Rattle.track.proofs.sub.apply_volume.Reads as apply-volume-reads
 use Rattle.track.proofs.sub.+process.{statement}
 use Rattle.track.proofs.sub.+process.Tie.{close}
 
--- what a track below is mixed into
+-- what a track is mixed in
 abbrev silent : List Float
-silent = replicate 512 (ofBits binary32 0)
+silent = replicate 512 none
 
 not-true : (b : Bool) → not b ≡ true → b ≡ false
 not-true true h = sym h
@@ -46,6 +46,9 @@ not-true false h = refl
 not-false : (b : Bool) → not b ≡ false → b ≡ true
 not-false true h = refl
 not-false false h = sym h
+
+abbrev Inv : Chunk → List Float → ℕ → ℕ → List Float → List Float → List Float → List Float → ℕ → Type 0
+Inv chunk samples line d out₀ sends₀ out sends j = (j ≤ chunk .«track_count») × (length out ≡ 512) × (length sends ≡ length sends₀) × (downto (turns (subStep d chunk samples line) (chunk .frames)) j out ≡ downto (turns (subStep d chunk samples line) (chunk .frames)) (chunk .«track_count») out₀) × (downto (turns (subSend d chunk samples line) sendFrames) j sends ≡ downto (turns (subSend d chunk samples line) sendFrames) (chunk .«track_count») sends₀)
 
 abbrev μ-process : Measures 7 process-kinds.ps ℕ
 μ-process κs a = a .1 .1 .1 .1 .1 .1 .0
@@ -56,423 +59,393 @@ process-at t = and 7 process-kinds.ps (is 7 process-kinds.ps μ-process t) proce
 abbrev process-below : ℕ → In 7 process-kinds.ps
 process-below t = and 7 process-kinds.ps (falls 7 process-kinds.ps _<_ μ-process t) process.Pre
 
-abbrev Inv : Chunk → List Float → ℕ → ℕ → List Float → List Float → List Float → List Float → ℕ → Type 0
-Inv chunk samples line d out₀ sends₀ out sends j = (j ≤ chunk .«track_count») × (length out ≡ length out₀) × (length sends ≡ length sends₀) × (downto (turns (subStep d chunk samples line) (chunk .frames)) j out ≡ downto (turns (subStep d chunk samples line) (chunk .frames)) (chunk .«track_count») out₀) × (downto (turns (subSend d chunk samples line) sendFrames) j sends ≡ downto (turns (subSend d chunk samples line) sendFrames) (chunk .«track_count») sends₀)
-
 abbrev process-Inv-loop : process-lts.InvT-loop
-process-Inv-loop places values parts table samples line depth out₀ sends₀ frames track j₀ out sends j =
+process-Inv-loop places values parts table samples line depth to sends₀ frames track out₀ j₀ sends out j =
     Inv (chunkFrom places values) samples line (depth - 1) out₀ sends₀ out sends j
 
 abbrev process-μ-loop : process-lts.MeasureT-loop
-process-μ-loop places values parts table samples line depth out₀ sends₀ frames track j₀ out sends j = j
+process-μ-loop places values parts table samples line depth to sends₀ frames track out₀ j₀ sends out j = j
 
--- src/sub.rt:105:18
+-- src/sub.rt:162:18
 process-element-copy-out-frames : (t : ℕ) → process-lts.Need-element-copy-out-frames (
-  clear-reads.Asked,
-  clear-reads.Learnt,
   track-at-reads.Asked,
   track-at-reads.Learnt,
+  add-silence-reads.Asked,
+  add-silence-reads.Learnt,
   process-below t,
   process.Post,
-  add-frames-reads.Asked,
-  add-frames-reads.Learnt,
   add-sounds-reads.Asked,
   add-sounds-reads.Learnt,
   apply-volume-reads.Asked,
   apply-volume-reads.Learnt,
   add-routes-reads.Asked,
   add-routes-reads.Learnt,
+  add-frames-reads.Asked,
+  add-frames-reads.Learnt,
 ) (process-at t) process.Post process-Inv-loop process-μ-loop
 process-element-copy-out-frames t c = search needs
 
--- src/sub.rt:106:5
-process-clear-requires : (t : ℕ) → process-lts.Need-clear-requires (
-  clear-reads.Asked,
-  clear-reads.Learnt,
-  track-at-reads.Asked,
-  track-at-reads.Learnt,
-  process-below t,
-  process.Post,
-  add-frames-reads.Asked,
-  add-frames-reads.Learnt,
-  add-sounds-reads.Asked,
-  add-sounds-reads.Learnt,
-  apply-volume-reads.Asked,
-  apply-volume-reads.Learnt,
-  add-routes-reads.Asked,
-  add-routes-reads.Learnt,
-) (process-at t) process.Post process-Inv-loop process-μ-loop
-process-clear-requires t c κs = c .before .before .before .before .before .pre .1 .1 .1 .1 .1 .0
-
--- src/sub.rt:107:42
+-- src/sub.rt:163:42
 process-sub-track-at : (t : ℕ) → process-lts.Need-sub-track-at (
-  clear-reads.Asked,
-  clear-reads.Learnt,
   track-at-reads.Asked,
   track-at-reads.Learnt,
+  add-silence-reads.Asked,
+  add-silence-reads.Learnt,
   process-below t,
   process.Post,
-  add-frames-reads.Asked,
-  add-frames-reads.Learnt,
   add-sounds-reads.Asked,
   add-sounds-reads.Learnt,
   apply-volume-reads.Asked,
   apply-volume-reads.Learnt,
   add-routes-reads.Asked,
   add-routes-reads.Learnt,
+  add-frames-reads.Asked,
+  add-frames-reads.Learnt,
 ) (process-at t) process.Post process-Inv-loop process-μ-loop
-process-sub-track-at t c = c .before .before .before .before .before .before .before .before .pre .1 .1 .1 .1 .0 .0
+process-sub-track-at t c = c .before .before .before .before .pre .1 .1 .1 .1 .0 .0
 
--- src/sub.rt:107:9
+-- src/sub.rt:163:9
 process-track-at-requires : (t : ℕ) → process-lts.Need-track-at-requires (
-  clear-reads.Asked,
-  clear-reads.Learnt,
   track-at-reads.Asked,
   track-at-reads.Learnt,
+  add-silence-reads.Asked,
+  add-silence-reads.Learnt,
   process-below t,
   process.Post,
-  add-frames-reads.Asked,
-  add-frames-reads.Learnt,
   add-sounds-reads.Asked,
   add-sounds-reads.Learnt,
   apply-volume-reads.Asked,
   apply-volume-reads.Learnt,
   add-routes-reads.Asked,
   add-routes-reads.Learnt,
+  add-frames-reads.Asked,
+  add-frames-reads.Learnt,
 ) (process-at t) process.Post process-Inv-loop process-μ-loop
 process-track-at-requires t c κs =
-    let start = c .before .before .before .before .before .before .before .before in
+    let start = c .before .before .before .before in
     omega (arith, start .pre .1 .1 .1 .1 .0 .0, start .pre .1 .1 .1 .1 .0 .1, start .pre .1 .1 .0 .tracks)
 
--- src/sub.rt:109:9
-process-same-length : (t : ℕ) → process-lts.Need-same-length (
-  clear-reads.Asked,
-  clear-reads.Learnt,
+-- src/sub.rt:165:9
+process-add-silence-requires : (t : ℕ) → process-lts.Need-add-silence-requires (
   track-at-reads.Asked,
   track-at-reads.Learnt,
+  add-silence-reads.Asked,
+  add-silence-reads.Learnt,
   process-below t,
   process.Post,
-  add-frames-reads.Asked,
-  add-frames-reads.Learnt,
   add-sounds-reads.Asked,
   add-sounds-reads.Learnt,
   apply-volume-reads.Asked,
   apply-volume-reads.Learnt,
   add-routes-reads.Asked,
   add-routes-reads.Learnt,
+  add-frames-reads.Asked,
+  add-frames-reads.Learnt,
+) (process-at t) process.Post process-Inv-loop process-μ-loop
+process-add-silence-requires t c κs = (c .before .before .before .before .before .before .before .pre .1 .1 .1 .1 .1 .0, zero-le)
+
+-- src/sub.rt:166:9
+process-same-length : (t : ℕ) → process-lts.Need-same-length (
+  track-at-reads.Asked,
+  track-at-reads.Learnt,
+  add-silence-reads.Asked,
+  add-silence-reads.Learnt,
+  process-below t,
+  process.Post,
+  add-sounds-reads.Asked,
+  add-sounds-reads.Learnt,
+  apply-volume-reads.Asked,
+  apply-volume-reads.Learnt,
+  add-routes-reads.Asked,
+  add-routes-reads.Learnt,
+  add-frames-reads.Asked,
+  add-frames-reads.Learnt,
 ) (process-at t) process.Post process-Inv-loop process-μ-loop
 process-same-length t c = search needs
 
--- src/sub.rt:109:9
+-- src/sub.rt:166:9
 process-returns : (t : ℕ) → process-lts.Need-returns (
-  clear-reads.Asked,
-  clear-reads.Learnt,
   track-at-reads.Asked,
   track-at-reads.Learnt,
+  add-silence-reads.Asked,
+  add-silence-reads.Learnt,
   process-below t,
   process.Post,
-  add-frames-reads.Asked,
-  add-frames-reads.Learnt,
   add-sounds-reads.Asked,
   add-sounds-reads.Learnt,
   apply-volume-reads.Asked,
   apply-volume-reads.Learnt,
   add-routes-reads.Asked,
   add-routes-reads.Learnt,
+  add-frames-reads.Asked,
+  add-frames-reads.Learnt,
 ) (process-at t) process.Post process-Inv-loop process-μ-loop
 process-returns t c =
     let start = c .before .before .before .before .before .before .before .before .before .before in
     let args = start .args in
     let chunk = chunkFrom (args .places .now) (args .values .now) in
     let samples = args .samples .now in
-    (c .before .before .before .before .clear .ensures ∙ track-none (args .depth) chunk samples (args .line) (args .out .now) (c .if1 .taken), sends-none (args .depth) chunk samples (args .line) (args .sends .now) (c .if1 .taken))
+    let none = c .before .before .before .before .if1 .taken in
+    (c .before .before .add-silence .ensures ∙ placed-all addedZero (chunk .frames) (args .to .now) ∙ track-none (args .depth) chunk samples (args .line) (args .to .now) none, sends-none (args .depth) chunk samples (args .line) (args .sends .now) none)
 
--- src/sub.rt:112:9
-process-same-length-2 : (t : ℕ) → process-lts.Need-same-length-2 (
-  clear-reads.Asked,
-  clear-reads.Learnt,
+-- src/sub.rt:169:9
+process-add-silence-requires-2 : (t : ℕ) → process-lts.Need-add-silence-requires-2 (
   track-at-reads.Asked,
   track-at-reads.Learnt,
+  add-silence-reads.Asked,
+  add-silence-reads.Learnt,
   process-below t,
   process.Post,
-  add-frames-reads.Asked,
-  add-frames-reads.Learnt,
   add-sounds-reads.Asked,
   add-sounds-reads.Learnt,
   apply-volume-reads.Asked,
   apply-volume-reads.Learnt,
   add-routes-reads.Asked,
   add-routes-reads.Learnt,
+  add-frames-reads.Asked,
+  add-frames-reads.Learnt,
+) (process-at t) process.Post process-Inv-loop process-μ-loop
+process-add-silence-requires-2 t c κs = (c .before .before .before .before .before .before .before .before .before .pre .1 .1 .1 .1 .1 .0, zero-le)
+
+-- src/sub.rt:170:9
+process-same-length-2 : (t : ℕ) → process-lts.Need-same-length-2 (
+  track-at-reads.Asked,
+  track-at-reads.Learnt,
+  add-silence-reads.Asked,
+  add-silence-reads.Learnt,
+  process-below t,
+  process.Post,
+  add-sounds-reads.Asked,
+  add-sounds-reads.Learnt,
+  apply-volume-reads.Asked,
+  apply-volume-reads.Learnt,
+  add-routes-reads.Asked,
+  add-routes-reads.Learnt,
+  add-frames-reads.Asked,
+  add-frames-reads.Learnt,
 ) (process-at t) process.Post process-Inv-loop process-μ-loop
 process-same-length-2 t c = search needs
 
--- src/sub.rt:112:9
+-- src/sub.rt:170:9
 process-returns-2 : (t : ℕ) → process-lts.Need-returns-2 (
-  clear-reads.Asked,
-  clear-reads.Learnt,
   track-at-reads.Asked,
   track-at-reads.Learnt,
+  add-silence-reads.Asked,
+  add-silence-reads.Learnt,
   process-below t,
   process.Post,
-  add-frames-reads.Asked,
-  add-frames-reads.Learnt,
   add-sounds-reads.Asked,
   add-sounds-reads.Learnt,
   apply-volume-reads.Asked,
   apply-volume-reads.Learnt,
   add-routes-reads.Asked,
   add-routes-reads.Learnt,
+  add-frames-reads.Asked,
+  add-frames-reads.Learnt,
 ) (process-at t) process.Post process-Inv-loop process-μ-loop
 process-returns-2 t c =
     let start = c .before .before .before .before .before .before .before .before .before .before .before .before in
     let args = start .args in
     let chunk = chunkFrom (args .places .now) (args .values .now) in
     let samples = args .samples .now in
-    let deep : args .depth ≡ suc (args .depth - 1) = omega (arith, c .before .before .if1 .left) in
-    let stops = ap (λ (t : ChunkTrack). t .advancing) (sym (c .before .before .before .track-at .ensures)) ∙ not-true _ (c .if2 .taken) in
-    (c .before .before .before .before .before .before .clear .ensures ∙ track-stopped (args .depth) (args .depth - 1) chunk samples (args .line) (args .out .now) deep stops, sends-stopped (args .depth) (args .depth - 1) chunk samples (args .line) (args .sends .now) deep stops)
+    let deep : args .depth ≡ suc (args .depth - 1) = omega (arith, c .before .before .before .before .before .before .if1 .left) in
+    let stops = ap (λ (t : ChunkTrack). t .advancing) (sym (c .before .before .before .before .before .before .before .track-at .ensures)) ∙ not-true _ (c .before .before .before .before .if2 .taken) in
+    (c .before .before .add-silence2 .ensures ∙ placed-all addedZero (chunk .frames) (args .to .now) ∙ track-stopped (args .depth) (args .depth - 1) chunk samples (args .line) (args .to .now) deep stops, sends-stopped (args .depth) (args .depth - 1) chunk samples (args .line) (args .sends .now) deep stops)
 
--- src/sub.rt:114:17
+-- src/sub.rt:173:17
 process-element-copy-out-j : (t : ℕ) → process-lts.Need-element-copy-out-j (
-  clear-reads.Asked,
-  clear-reads.Learnt,
   track-at-reads.Asked,
   track-at-reads.Learnt,
+  add-silence-reads.Asked,
+  add-silence-reads.Learnt,
   process-below t,
   process.Post,
-  add-frames-reads.Asked,
-  add-frames-reads.Learnt,
   add-sounds-reads.Asked,
   add-sounds-reads.Learnt,
   apply-volume-reads.Asked,
   apply-volume-reads.Learnt,
   add-routes-reads.Asked,
   add-routes-reads.Learnt,
+  add-frames-reads.Asked,
+  add-frames-reads.Learnt,
 ) (process-at t) process.Post process-Inv-loop process-μ-loop
 process-element-copy-out-j t c = search needs
 
--- src/sub.rt:115:5
+-- src/sub.rt:174:5
 process-loop-holds : (t : ℕ) → process-lts.Need-loop-holds (
-  clear-reads.Asked,
-  clear-reads.Learnt,
   track-at-reads.Asked,
   track-at-reads.Learnt,
+  add-silence-reads.Asked,
+  add-silence-reads.Learnt,
   process-below t,
   process.Post,
-  add-frames-reads.Asked,
-  add-frames-reads.Learnt,
   add-sounds-reads.Asked,
   add-sounds-reads.Learnt,
   apply-volume-reads.Asked,
   apply-volume-reads.Learnt,
   add-routes-reads.Asked,
   add-routes-reads.Learnt,
+  add-frames-reads.Asked,
+  add-frames-reads.Learnt,
 ) (process-at t) process.Post process-Inv-loop process-μ-loop
 process-loop-holds t c = (le-refl _, refl, refl, refl, refl)
 
--- src/sub.rt:116:46
+-- src/sub.rt:175:46
 process-sub-track-at-2 : (t : ℕ) → process-lts.Need-sub-track-at-2 (
-  clear-reads.Asked,
-  clear-reads.Learnt,
   track-at-reads.Asked,
   track-at-reads.Learnt,
+  add-silence-reads.Asked,
+  add-silence-reads.Learnt,
   process-below t,
   process.Post,
-  add-frames-reads.Asked,
-  add-frames-reads.Learnt,
   add-sounds-reads.Asked,
   add-sounds-reads.Learnt,
   apply-volume-reads.Asked,
   apply-volume-reads.Learnt,
   add-routes-reads.Asked,
   add-routes-reads.Learnt,
+  add-frames-reads.Asked,
+  add-frames-reads.Learnt,
 ) (process-at t) process.Post process-Inv-loop process-μ-loop
 process-sub-track-at-2 t c = omega (arith, c .loop-test .taken)
 
--- src/sub.rt:116:13
+-- src/sub.rt:175:13
 process-track-at-requires-2 : (t : ℕ) → process-lts.Need-track-at-requires-2 (
-  clear-reads.Asked,
-  clear-reads.Learnt,
   track-at-reads.Asked,
   track-at-reads.Learnt,
+  add-silence-reads.Asked,
+  add-silence-reads.Learnt,
   process-below t,
   process.Post,
-  add-frames-reads.Asked,
-  add-frames-reads.Learnt,
   add-sounds-reads.Asked,
   add-sounds-reads.Learnt,
   apply-volume-reads.Asked,
   apply-volume-reads.Learnt,
   add-routes-reads.Asked,
   add-routes-reads.Learnt,
+  add-frames-reads.Asked,
+  add-frames-reads.Learnt,
 ) (process-at t) process.Post process-Inv-loop process-μ-loop
-process-track-at-requires-2 t c κs = omega (arith, c .loop-test .taken, c .before .loop .inv .0, c .before .before .before .before .before .before .before .before .before .before .before .before .before .before .before .pre .1 .1 .0 .tracks)
+process-track-at-requires-2 t c κs = omega (arith, c .loop-test .taken, c .before .loop .inv .0, c .before .before .before .before .before .before .before .before .before .before .before .pre .1 .1 .0 .tracks)
 
--- src/sub.rt:119:63
+-- src/sub.rt:184:17
 process-sub-process : (t : ℕ) → process-lts.Need-sub-process (
-  clear-reads.Asked,
-  clear-reads.Learnt,
   track-at-reads.Asked,
   track-at-reads.Learnt,
+  add-silence-reads.Asked,
+  add-silence-reads.Learnt,
   process-below t,
   process.Post,
-  add-frames-reads.Asked,
-  add-frames-reads.Learnt,
   add-sounds-reads.Asked,
   add-sounds-reads.Learnt,
   apply-volume-reads.Asked,
   apply-volume-reads.Learnt,
   add-routes-reads.Asked,
   add-routes-reads.Learnt,
+  add-frames-reads.Asked,
+  add-frames-reads.Learnt,
 ) (process-at t) process.Post process-Inv-loop process-μ-loop
 process-sub-process t c = omega (arith, c .before .before .before .before .before .before .before .before .if1 .left)
 
--- src/sub.rt:119:74
+-- src/sub.rt:185:17
 process-slice-aggregate-process : (t : ℕ) → process-lts.Need-slice-aggregate-process (
-  clear-reads.Asked,
-  clear-reads.Learnt,
   track-at-reads.Asked,
   track-at-reads.Learnt,
+  add-silence-reads.Asked,
+  add-silence-reads.Learnt,
   process-below t,
   process.Post,
-  add-frames-reads.Asked,
-  add-frames-reads.Learnt,
   add-sounds-reads.Asked,
   add-sounds-reads.Learnt,
   apply-volume-reads.Asked,
   apply-volume-reads.Learnt,
   add-routes-reads.Asked,
   add-routes-reads.Learnt,
+  add-frames-reads.Asked,
+  add-frames-reads.Learnt,
 ) (process-at t) process.Post process-Inv-loop process-μ-loop
 process-slice-aggregate-process t c = search needs
 
--- src/sub.rt:119:13
+-- src/sub.rt:177:13
 process-process-requires : (t : ℕ) → process-lts.Need-process-requires (
-  clear-reads.Asked,
-  clear-reads.Learnt,
   track-at-reads.Asked,
   track-at-reads.Learnt,
+  add-silence-reads.Asked,
+  add-silence-reads.Learnt,
   process-below t,
   process.Post,
-  add-frames-reads.Asked,
-  add-frames-reads.Learnt,
   add-sounds-reads.Asked,
   add-sounds-reads.Learnt,
   apply-volume-reads.Asked,
   apply-volume-reads.Learnt,
   add-routes-reads.Asked,
   add-routes-reads.Learnt,
+  add-frames-reads.Asked,
+  add-frames-reads.Learnt,
 ) (process-at t) process.Post process-Inv-loop process-μ-loop
 process-process-requires t c κs =
-    let start = c .before .before .before .before .before .before .before .before .before .before .before .before .before .before .before .before .before .before .before .before in
+    let start = c .before .before .before .before .before .before .before .before .before .before .before .before .before .before .before .before in
     let ok = start .pre .1 .1 .0 in
-    let l = c .before .before .before .before .before .before in
-    (omega (arith, start .pre .0, c .before .before .before .before .before .before .before .before .before .before .if1 .left), (start .pre .1 .0, (ok, (start .pre .1 .1 .1 .0, ((c .before .before .before .before .before .loop-test .taken, l .loop .inv .0), (omega (arith, ok .short), l .loop .inv .2 ∙ start .pre .1 .1 .1 .1 .1 .1))))))
+    let inv = c .before .before .before .before .before .before .loop .inv in
+    (omega (arith, start .pre .0, c .before .before .before .before .before .before .before .before .before .before .if1 .left), (start .pre .1 .0, (ok, (start .pre .1 .1 .1 .0, ((c .before .before .before .before .before .loop-test .taken, inv .0), (omega (arith, ok .short, inv .1), inv .2 ∙ start .pre .1 .1 .1 .1 .1 .1))))))
 
--- src/sub.rt:120:29
-process-slice-aggregate-add-frames : (t : ℕ) → process-lts.Need-slice-aggregate-add-frames (
-  clear-reads.Asked,
-  clear-reads.Learnt,
-  track-at-reads.Asked,
-  track-at-reads.Learnt,
-  process-below t,
-  process.Post,
-  add-frames-reads.Asked,
-  add-frames-reads.Learnt,
-  add-sounds-reads.Asked,
-  add-sounds-reads.Learnt,
-  apply-volume-reads.Asked,
-  apply-volume-reads.Learnt,
-  add-routes-reads.Asked,
-  add-routes-reads.Learnt,
-) (process-at t) process.Post process-Inv-loop process-μ-loop
-process-slice-aggregate-add-frames t c = search needs
-
--- src/sub.rt:120:13
-process-add-frames-requires : (t : ℕ) → process-lts.Need-add-frames-requires (
-  clear-reads.Asked,
-  clear-reads.Learnt,
-  track-at-reads.Asked,
-  track-at-reads.Learnt,
-  process-below t,
-  process.Post,
-  add-frames-reads.Asked,
-  add-frames-reads.Learnt,
-  add-sounds-reads.Asked,
-  add-sounds-reads.Learnt,
-  apply-volume-reads.Asked,
-  apply-volume-reads.Learnt,
-  add-routes-reads.Asked,
-  add-routes-reads.Learnt,
-) (process-at t) process.Post process-Inv-loop process-μ-loop
-process-add-frames-requires t c κs =
-    let start = c .before .before .before .before .before .before .before .before .before .before .before .before .before .before .before .before .before .before .before .before .before .before .before .before .before .before in
-    let args = start .args in
-    let chunk = chunkFrom (args .places .now) (args .values .now) in
-    let samples = args .samples .now in
-    let ok = start .pre .1 .1 .0 in
-    let l = c .before .before .before .before .before .before .before .before .before .before .before .before in
-    let cleared-length = kept cleared (chunk .frames) (args .out .now) (c .before .before .before .before .before .before .before .before .before .before .before .before .before .before .before .before .before .before .before .before .clear .ensures) in
-    let set-length = kept (trackSet (args .depth - 1) chunk samples (l .loop .j)) (chunk .frames) silent (c .before .before .before .before .before .process .ensures .0) ∙ length-replicate 512 (ofBits binary32 0) in
-    (omega (arith, l .loop .inv .1, start .pre .1 .1 .1 .1 .1 .0, cleared-length), omega (arith, ok .short, set-length))
-
--- src/sub.rt:122:9
+-- src/sub.rt:189:9
 process-sub-j : (t : ℕ) → process-lts.Need-sub-j (
-  clear-reads.Asked,
-  clear-reads.Learnt,
   track-at-reads.Asked,
   track-at-reads.Learnt,
+  add-silence-reads.Asked,
+  add-silence-reads.Learnt,
   process-below t,
   process.Post,
-  add-frames-reads.Asked,
-  add-frames-reads.Learnt,
   add-sounds-reads.Asked,
   add-sounds-reads.Learnt,
   apply-volume-reads.Asked,
   apply-volume-reads.Learnt,
   add-routes-reads.Asked,
   add-routes-reads.Learnt,
+  add-frames-reads.Asked,
+  add-frames-reads.Learnt,
 ) (process-at t) process.Post process-Inv-loop process-μ-loop
 process-sub-j t c = omega (arith, c .before .before .before .loop-test .taken)
 
--- src/sub.rt:115:5
+-- src/sub.rt:174:5
 process-loop-less : (t : ℕ) → process-lts.Need-loop-less (
-  clear-reads.Asked,
-  clear-reads.Learnt,
   track-at-reads.Asked,
   track-at-reads.Learnt,
+  add-silence-reads.Asked,
+  add-silence-reads.Learnt,
   process-below t,
   process.Post,
-  add-frames-reads.Asked,
-  add-frames-reads.Learnt,
   add-sounds-reads.Asked,
   add-sounds-reads.Learnt,
   apply-volume-reads.Asked,
   apply-volume-reads.Learnt,
   add-routes-reads.Asked,
   add-routes-reads.Learnt,
+  add-frames-reads.Asked,
+  add-frames-reads.Learnt,
 ) (process-at t) process.Post process-Inv-loop process-μ-loop
 process-loop-less t c = omega (arith, c .before .before .before .loop-test .taken)
 
--- src/sub.rt:115:5
+-- src/sub.rt:174:5
 process-loop-again : (t : ℕ) → process-lts.Need-loop-again (
-  clear-reads.Asked,
-  clear-reads.Learnt,
   track-at-reads.Asked,
   track-at-reads.Learnt,
+  add-silence-reads.Asked,
+  add-silence-reads.Learnt,
   process-below t,
   process.Post,
-  add-frames-reads.Asked,
-  add-frames-reads.Learnt,
   add-sounds-reads.Asked,
   add-sounds-reads.Learnt,
   apply-volume-reads.Asked,
   apply-volume-reads.Learnt,
   add-routes-reads.Asked,
   add-routes-reads.Learnt,
+  add-frames-reads.Asked,
+  add-frames-reads.Learnt,
 ) (process-at t) process.Post process-Inv-loop process-μ-loop
 process-loop-again t c =
-    let start = c .before .before .before .before .before .before .before .before .before .before .before .before .before .before .before .before .before .before in
+    let start = c .before .before .before .before .before .before .before .before .before .before .before .before .before .before in
     let args = start .args in
     let chunk = chunkFrom (args .places .now) (args .values .now) in
     let samples = args .samples .now in
@@ -486,209 +459,303 @@ process-loop-again t c =
     let g = subStep d chunk samples (args .line) in
     let q = subSend d chunk samples (args .line) in
     let e : c .if3 .out ≡ withFrames (g (j - 1)) n (l .loop .out) = ⊎-elim
-    (λ w. w .12 ∙ w .9 .ensures ∙ sub-taken d chunk samples (args .line) j (l .loop .out) (w .3 .last .1 .1 .1 .1 .1 .1 .1 .0) silent h (sym parent ∙ w .0 .taken) (omega (arith, start .pre .1 .1 .0 .short, length-replicate 512 (ofBits binary32 0))) (w .3 .ensures .0))
-    (λ w. w .1 ∙ sym (sub-left d chunk samples (args .line) j (l .loop .out) (λ p. w .0 .left (parent ∙ p))))
+    (λ w. w .8 ∙ w .3 .ensures .0 ∙ sub-taken d chunk samples (args .line) j (l .loop .out) h (sym parent ∙ w .0 .taken))
+    (λ w. w .2 ∙ sym (sub-left d chunk samples (args .line) j (l .loop .out) (λ p. w .0 .left (parent ∙ p))))
     (c .if3 .came) in
     let f : c .if3 .sends ≡ withFrames (q (j - 1)) sendFrames (l .loop .sends) = ⊎-elim
-    (λ w. w .13 ∙ w .3 .ensures .1 ∙ send-taken d chunk samples (args .line) j (l .loop .sends) h (sym parent ∙ w .0 .taken))
-    (λ w. w .2 ∙ sym (send-left d chunk samples (args .line) j (l .loop .sends) (λ p. w .0 .left (parent ∙ p))))
-    (c .if3 .came) in
-    let out = c .before .before .before .before .before .before .before .before .before .before .before .before .clear .last .0 in (
+    (λ w. w .7 ∙ w .3 .ensures .1 ∙ send-taken d chunk samples (args .line) j (l .loop .sends) h (sym parent ∙ w .0 .taken))
+    (λ w. w .1 ∙ sym (send-left d chunk samples (args .line) j (l .loop .sends) (λ p. w .0 .left (parent ∙ p))))
+    (c .if3 .came) in (
       omega (arith, inv .0),
-      turn-length g n out (l .loop .out) (j - 1) (inv .1) e,
+      turn-length g n silent (l .loop .out) (j - 1) (inv .1) e,
       turn-length q sendFrames (args .sends .now) (l .loop .sends) (j - 1) (inv .2) f,
-      down-turn g n out (l .loop .out) j h (inv .3) e,
+      down-turn g n silent (l .loop .out) j h (inv .3) e,
       down-turn q sendFrames (args .sends .now) (l .loop .sends) j h (inv .4) f,
     )
 
--- src/sub.rt:124:5
-process-add-sounds-requires : (t : ℕ) → process-lts.Need-add-sounds-requires (
-  clear-reads.Asked,
-  clear-reads.Learnt,
+-- src/sub.rt:191:16
+process-slice-aggregate-add-sounds : (t : ℕ) → process-lts.Need-slice-aggregate-add-sounds (
   track-at-reads.Asked,
   track-at-reads.Learnt,
+  add-silence-reads.Asked,
+  add-silence-reads.Learnt,
   process-below t,
   process.Post,
-  add-frames-reads.Asked,
-  add-frames-reads.Learnt,
   add-sounds-reads.Asked,
   add-sounds-reads.Learnt,
   apply-volume-reads.Asked,
   apply-volume-reads.Learnt,
   add-routes-reads.Asked,
   add-routes-reads.Learnt,
+  add-frames-reads.Asked,
+  add-frames-reads.Learnt,
 ) (process-at t) process.Post process-Inv-loop process-μ-loop
-process-add-sounds-requires t c κs =
-    let start = c .before .before .before .before .before .before .before .before .before .before .before .before .before .before .before .before in
-    let args = start .args in
-    let chunk = chunkFrom (args .places .now) (args .values .now) in
-    let samples = args .samples .now in
-    let l = c .before .before in
-    let cleared-length = kept cleared (chunk .frames) (args .out .now) (c .before .before .before .before .before .before .before .before .before .before .clear .ensures) in
-    (start .pre .1 .1 .0, omega (arith, l .loop .inv .1, start .pre .1 .1 .1 .1 .1 .0, cleared-length))
+process-slice-aggregate-add-sounds t c = search needs
 
--- src/sub.rt:125:5
-process-apply-volume-requires : (t : ℕ) → process-lts.Need-apply-volume-requires (
-  clear-reads.Asked,
-  clear-reads.Learnt,
+-- src/sub.rt:191:5
+process-add-sounds-requires : (t : ℕ) → process-lts.Need-add-sounds-requires (
   track-at-reads.Asked,
   track-at-reads.Learnt,
+  add-silence-reads.Asked,
+  add-silence-reads.Learnt,
   process-below t,
   process.Post,
-  add-frames-reads.Asked,
-  add-frames-reads.Learnt,
   add-sounds-reads.Asked,
   add-sounds-reads.Learnt,
   apply-volume-reads.Asked,
   apply-volume-reads.Learnt,
   add-routes-reads.Asked,
   add-routes-reads.Learnt,
+  add-frames-reads.Asked,
+  add-frames-reads.Learnt,
+) (process-at t) process.Post process-Inv-loop process-μ-loop
+process-add-sounds-requires t c κs = (c .before .before .before .before .before .before .before .before .before .before .before .before .pre .1 .1 .0, omega (arith, c .before .before .loop .inv .1, c .before .before .before .before .before .before .before .before .before .before .before .before .pre .1 .1 .0 .short))
+
+-- src/sub.rt:192:18
+process-slice-aggregate-apply-volume : (t : ℕ) → process-lts.Need-slice-aggregate-apply-volume (
+  track-at-reads.Asked,
+  track-at-reads.Learnt,
+  add-silence-reads.Asked,
+  add-silence-reads.Learnt,
+  process-below t,
+  process.Post,
+  add-sounds-reads.Asked,
+  add-sounds-reads.Learnt,
+  apply-volume-reads.Asked,
+  apply-volume-reads.Learnt,
+  add-routes-reads.Asked,
+  add-routes-reads.Learnt,
+  add-frames-reads.Asked,
+  add-frames-reads.Learnt,
+) (process-at t) process.Post process-Inv-loop process-μ-loop
+process-slice-aggregate-apply-volume t c = search needs
+
+-- src/sub.rt:192:5
+process-apply-volume-requires : (t : ℕ) → process-lts.Need-apply-volume-requires (
+  track-at-reads.Asked,
+  track-at-reads.Learnt,
+  add-silence-reads.Asked,
+  add-silence-reads.Learnt,
+  process-below t,
+  process.Post,
+  add-sounds-reads.Asked,
+  add-sounds-reads.Learnt,
+  apply-volume-reads.Asked,
+  apply-volume-reads.Learnt,
+  add-routes-reads.Asked,
+  add-routes-reads.Learnt,
+  add-frames-reads.Asked,
+  add-frames-reads.Learnt,
 ) (process-at t) process.Post process-Inv-loop process-μ-loop
 process-apply-volume-requires t c κs =
-    let start = c .before .before .before .before .before .before .before .before .before .before .before .before .before .before .before .before .before .before .before .before in
+    let start = c .before .before .before .before .before .before .before .before .before .before .before .before .before .before .before in
     let args = start .args in
     let chunk = chunkFrom (args .places .now) (args .values .now) in
     let samples = args .samples .now in
     let ok = start .pre .1 .1 .0 in
     let lines = start .pre .1 .1 .1 .1 .0 in
-    let l = c .before .before .before .before .before .before in
-    let cleared-length = kept cleared (chunk .frames) (args .out .now) (c .before .before .before .before .before .before .before .before .before .before .before .before .before .before .clear .ensures) in
-    let heard-length = kept (withSounds chunk samples (args .line)) (chunk .frames) (l .loop .out) (c .before .before .before .add-sounds .ensures) in
-    let level : (f : ChunkTrack → Level) → LevelInRange (f (trackLine chunk (args .line - 1))) → LevelInRange (f (c .before .before .before .before .before .before .before .before .before .before .before .track-at .result)) = λ f. subst (λ (t : ChunkTrack). LevelInRange (f t)) (sym (c .before .before .before .before .before .before .before .before .before .before .before .track-at .ensures)) in
-    (start .pre .1 .0, ((ok .short, omega (arith, heard-length, l .loop .inv .1, start .pre .1 .1 .1 .1 .1 .0, cleared-length)), ((level (λ t. t .volume) (ok .volumes (args .line - 1) (omega (arith, lines .0, lines .1))), level (λ t. t .fade) (ok .fades (args .line - 1) (omega (arith, lines .0, lines .1)))), start .pre .1 .1 .1 .0)))
+    let l = c .before .before .before .before .before in
+    let heard-length = kept (withSounds chunk samples (args .line)) (chunk .frames) (l .loop .out) (c .before .before .add-sounds .ensures) in
+    let level : (f : ChunkTrack → Level) → LevelInRange (f (trackLine chunk (args .line - 1))) → LevelInRange (f (c .before .before .before .before .before .before .before .before .before .before .track-at .result)) = λ f. subst (λ (t : ChunkTrack). LevelInRange (f t)) (sym (c .before .before .before .before .before .before .before .before .before .before .track-at .ensures)) in
+    (start .pre .1 .0, ((ok .short, omega (arith, heard-length, l .loop .inv .1, ok .short)), ((level (λ t. t .volume) (ok .volumes (args .line - 1) (omega (arith, lines .0, lines .1))), level (λ t. t .fade) (ok .fades (args .line - 1) (omega (arith, lines .0, lines .1)))), start .pre .1 .1 .1 .0)))
 
--- src/sub.rt:126:5
-process-add-routes-requires : (t : ℕ) → process-lts.Need-add-routes-requires (
-  clear-reads.Asked,
-  clear-reads.Learnt,
+-- src/sub.rt:193:23
+process-slice-aggregate-add-routes : (t : ℕ) → process-lts.Need-slice-aggregate-add-routes (
   track-at-reads.Asked,
   track-at-reads.Learnt,
+  add-silence-reads.Asked,
+  add-silence-reads.Learnt,
   process-below t,
   process.Post,
-  add-frames-reads.Asked,
-  add-frames-reads.Learnt,
   add-sounds-reads.Asked,
   add-sounds-reads.Learnt,
   apply-volume-reads.Asked,
   apply-volume-reads.Learnt,
   add-routes-reads.Asked,
   add-routes-reads.Learnt,
+  add-frames-reads.Asked,
+  add-frames-reads.Learnt,
+) (process-at t) process.Post process-Inv-loop process-μ-loop
+process-slice-aggregate-add-routes t c = search needs
+
+-- src/sub.rt:193:5
+process-add-routes-requires : (t : ℕ) → process-lts.Need-add-routes-requires (
+  track-at-reads.Asked,
+  track-at-reads.Learnt,
+  add-silence-reads.Asked,
+  add-silence-reads.Learnt,
+  process-below t,
+  process.Post,
+  add-sounds-reads.Asked,
+  add-sounds-reads.Learnt,
+  apply-volume-reads.Asked,
+  apply-volume-reads.Learnt,
+  add-routes-reads.Asked,
+  add-routes-reads.Learnt,
+  add-frames-reads.Asked,
+  add-frames-reads.Learnt,
 ) (process-at t) process.Post process-Inv-loop process-μ-loop
 process-add-routes-requires t c κs =
-    let start = c .before .before .before .before .before .before .before .before .before .before .before .before .before .before .before .before .before .before .before .before .before .before .before .before .before in
+    let start = c .before .before .before .before .before .before .before .before .before .before .before .before .before .before .before .before .before .before .before in
     let args = start .args in
     let chunk = chunkFrom (args .places .now) (args .values .now) in
     let samples = args .samples .now in
-    let l = c .before .before .before .before .before .before .before .before .before .before .before in
-    let cleared-length = kept cleared (chunk .frames) (args .out .now) (c .before .before .before .before .before .before .before .before .before .before .before .before .before .before .before .before .before .before .before .clear .ensures) in
-    let heard-length = kept (withSounds chunk samples (args .line)) (chunk .frames) (l .loop .out) (c .before .before .before .before .before .before .before .before .add-sounds .ensures) in
-    let scaled-length = kept (trackScaled (c .before .before .before .before .before .before .before .before .before .before .before .before .before .before .before .before .track-at .result) (chunk .frames)) (chunk .frames) (c .before .before .before .before .before .before .before .before .add-sounds .last .0) (c .before .before .before .before .apply-volume .ensures) in
-    (start .pre .1 .1 .0, (omega (arith, cleared-length, heard-length, scaled-length, l .loop .inv .1, start .pre .1 .1 .1 .1 .1 .0), l .loop .inv .2 ∙ start .pre .1 .1 .1 .1 .1 .1))
+    let l = c .before .before .before .before .before .before .before .before .before in
+    let heard-length = kept (withSounds chunk samples (args .line)) (chunk .frames) (l .loop .out) (c .before .before .before .before .before .before .add-sounds .ensures) in
+    let scaled-length = kept (trackScaled (c .before .before .before .before .before .before .before .before .before .before .before .before .before .before .track-at .result) (chunk .frames)) (chunk .frames) (c .before .before .before .before .before .before .add-sounds .last .0) (c .before .before .before .apply-volume .ensures) in
+    (start .pre .1 .1 .0, (omega (arith, heard-length, scaled-length, l .loop .inv .1, start .pre .1 .1 .0 .short), l .loop .inv .2 ∙ start .pre .1 .1 .1 .1 .1 .1))
 
--- src/sub.rt:85:1
-process-same-length-3 : (t : ℕ) → process-lts.Need-same-length-3 (
-  clear-reads.Asked,
-  clear-reads.Learnt,
+-- src/sub.rt:194:20
+process-slice-aggregate-add-frames : (t : ℕ) → process-lts.Need-slice-aggregate-add-frames (
   track-at-reads.Asked,
   track-at-reads.Learnt,
+  add-silence-reads.Asked,
+  add-silence-reads.Learnt,
   process-below t,
   process.Post,
-  add-frames-reads.Asked,
-  add-frames-reads.Learnt,
   add-sounds-reads.Asked,
   add-sounds-reads.Learnt,
   apply-volume-reads.Asked,
   apply-volume-reads.Learnt,
   add-routes-reads.Asked,
   add-routes-reads.Learnt,
-) (process-at t) process.Post process-Inv-loop process-μ-loop
-process-same-length-3 t c = search needs
-
--- src/sub.rt:85:1
-process-same-length-4 : (t : ℕ) → process-lts.Need-same-length-4 (
-  clear-reads.Asked,
-  clear-reads.Learnt,
-  track-at-reads.Asked,
-  track-at-reads.Learnt,
-  process-below t,
-  process.Post,
   add-frames-reads.Asked,
   add-frames-reads.Learnt,
+) (process-at t) process.Post process-Inv-loop process-μ-loop
+process-slice-aggregate-add-frames t c = search needs
+
+-- src/sub.rt:194:5
+process-add-frames-requires : (t : ℕ) → process-lts.Need-add-frames-requires (
+  track-at-reads.Asked,
+  track-at-reads.Learnt,
+  add-silence-reads.Asked,
+  add-silence-reads.Learnt,
+  process-below t,
+  process.Post,
   add-sounds-reads.Asked,
   add-sounds-reads.Learnt,
   apply-volume-reads.Asked,
   apply-volume-reads.Learnt,
   add-routes-reads.Asked,
   add-routes-reads.Learnt,
-) (process-at t) process.Post process-Inv-loop process-μ-loop
-process-same-length-4 t c = search needs
-
--- src/sub.rt:85:1
-process-returns-3 : (t : ℕ) → process-lts.Need-returns-3 (
-  clear-reads.Asked,
-  clear-reads.Learnt,
-  track-at-reads.Asked,
-  track-at-reads.Learnt,
-  process-below t,
-  process.Post,
   add-frames-reads.Asked,
   add-frames-reads.Learnt,
-  add-sounds-reads.Asked,
-  add-sounds-reads.Learnt,
-  apply-volume-reads.Asked,
-  apply-volume-reads.Learnt,
-  add-routes-reads.Asked,
-  add-routes-reads.Learnt,
 ) (process-at t) process.Post process-Inv-loop process-μ-loop
-process-returns-3 t c =
-    let start = c .before .before .before .before .before .before .before .before .before .before .before .before .before .before .before .before .before .before .before .before .before .before .before .before .before .before .before .before in
+process-add-frames-requires t c κs =
+    let start = c .before .before .before .before .before .before .before .before .before .before .before .before .before .before .before .before .before .before .before .before .before .before .before .before in
     let args = start .args in
     let chunk = chunkFrom (args .places .now) (args .values .now) in
     let samples = args .samples .now in
     let l = c .before .before .before .before .before .before .before .before .before .before .before .before .before .before in
-    let n = chunk .frames in
-    let d = args .depth - 1 in
-    let deep : args .depth ≡ suc d = omega (arith, c .before .before .before .before .before .before .before .before .before .before .before .before .before .before .before .before .before .before .if1 .left) in
-    let read = c .before .before .before .before .before .before .before .before .before .before .before .before .before .before .before .before .before .before .before .track-at .ensures in
-    let moves = ap (λ (t : ChunkTrack). t .advancing) (sym read) ∙ not-false _ (c .before .before .before .before .before .before .before .before .before .before .before .before .before .before .before .before .if2 .left) in
-    let stop = c .before .before .before .before .before .before .before .before .before .before .before .before .before .loop-test .left in
-    let g = subStep d chunk samples (args .line) in
-    let q = subSend d chunk samples (args .line) in
-    let cleared-out = c .before .before .before .before .before .before .before .before .before .before .before .before .before .before .before .before .before .before .before .before .before .before .clear .last .0 in
-    let under = down-done g n (chunk .«track_count») cleared-out (omega (arith, stop)) (l .loop .inv .3) ∙ sub-done d chunk samples (args .line) cleared-out
-    ∙ ap (withFrames (subSum d chunk samples (args .line)) n) (c .before .before .before .before .before .before .before .before .before .before .before .before .before .before .before .before .before .before .before .before .before .before .clear .ensures) in
-    let scaled = c .before .before .before .before .before .before .before .apply-volume .ensures ∙ ap (λ (t : ChunkTrack). withFrames (trackScaled t n) n (c .before .before .before .before .before .before .before .before .before .before .before .add-sounds .last .0)) read in
-    let out = track-mixed (args .depth) d chunk samples (args .line) (args .out .now) deep moves under (c .before .before .before .before .before .before .before .before .before .before .before .add-sounds .ensures) scaled in
-    let sent = down-done q sendFrames (chunk .«track_count») (args .sends .now) (omega (arith, stop)) (l .loop .inv .4) ∙ send-done d chunk samples (args .line) (args .sends .now) in
-    (out, sends-mixed (args .depth) d chunk samples (args .line) (args .sends .now) deep (c .before .before .before .before .before .before .before .apply-volume .last .0) (args .out .now) moves (start .pre .1 .1 .1 .1 .1 .0) out sent (c .before .before .add-routes .ensures))
+    let heard-length = kept (withSounds chunk samples (args .line)) (chunk .frames) (l .loop .out) (c .before .before .before .before .before .before .before .before .before .before .before .add-sounds .ensures) in
+    let scaled-length = kept (trackScaled (c .before .before .before .before .before .before .before .before .before .before .before .before .before .before .before .before .before .before .before .track-at .result) (chunk .frames)) (chunk .frames) (c .before .before .before .before .before .before .before .before .before .before .before .add-sounds .last .0) (c .before .before .before .before .before .before .before .before .apply-volume .ensures) in
+    (start .pre .1 .1 .1 .1 .1 .0, omega (arith, heard-length, scaled-length, l .loop .inv .1, start .pre .1 .1 .0 .short))
 
-pub +process-spec : {M : Type 1} → statement M
-+process-spec = close μ-process λ t. process-lts.spec (
-  clear-reads.Asked,
-  clear-reads.Learnt,
+-- src/sub.rt:142:1
+process-same-length-3 : (t : ℕ) → process-lts.Need-same-length-3 (
   track-at-reads.Asked,
   track-at-reads.Learnt,
+  add-silence-reads.Asked,
+  add-silence-reads.Learnt,
   process-below t,
   process.Post,
-  add-frames-reads.Asked,
-  add-frames-reads.Learnt,
   add-sounds-reads.Asked,
   add-sounds-reads.Learnt,
   apply-volume-reads.Asked,
   apply-volume-reads.Learnt,
   add-routes-reads.Asked,
   add-routes-reads.Learnt,
+  add-frames-reads.Asked,
+  add-frames-reads.Learnt,
+) (process-at t) process.Post process-Inv-loop process-μ-loop
+process-same-length-3 t c = search needs
+
+-- src/sub.rt:142:1
+process-same-length-4 : (t : ℕ) → process-lts.Need-same-length-4 (
+  track-at-reads.Asked,
+  track-at-reads.Learnt,
+  add-silence-reads.Asked,
+  add-silence-reads.Learnt,
+  process-below t,
+  process.Post,
+  add-sounds-reads.Asked,
+  add-sounds-reads.Learnt,
+  apply-volume-reads.Asked,
+  apply-volume-reads.Learnt,
+  add-routes-reads.Asked,
+  add-routes-reads.Learnt,
+  add-frames-reads.Asked,
+  add-frames-reads.Learnt,
+) (process-at t) process.Post process-Inv-loop process-μ-loop
+process-same-length-4 t c = search needs
+
+-- src/sub.rt:142:1
+process-returns-3 : (t : ℕ) → process-lts.Need-returns-3 (
+  track-at-reads.Asked,
+  track-at-reads.Learnt,
+  add-silence-reads.Asked,
+  add-silence-reads.Learnt,
+  process-below t,
+  process.Post,
+  add-sounds-reads.Asked,
+  add-sounds-reads.Learnt,
+  apply-volume-reads.Asked,
+  apply-volume-reads.Learnt,
+  add-routes-reads.Asked,
+  add-routes-reads.Learnt,
+  add-frames-reads.Asked,
+  add-frames-reads.Learnt,
+) (process-at t) process.Post process-Inv-loop process-μ-loop
+unfolding ofBits ofInt
+process-returns-3 t c =
+    let start = c .before .before .before .before .before .before .before .before .before .before .before .before .before .before .before .before .before .before .before .before .before .before .before .before .before .before .before in
+    let args = start .args in
+    let chunk = chunkFrom (args .places .now) (args .values .now) in
+    let samples = args .samples .now in
+    let l = c .before .before .before .before .before .before .before .before .before .before .before .before .before .before .before .before .before in
+    let n = chunk .frames in
+    let d = args .depth - 1 in
+    let deep : args .depth ≡ suc d = omega (arith, c .before .before .before .before .before .before .before .before .before .before .before .before .before .before .before .before .before .before .before .before .before .if1 .left) in
+    let read = c .before .before .before .before .before .before .before .before .before .before .before .before .before .before .before .before .before .before .before .before .before .before .track-at .ensures in
+    let moves = ap (λ (t : ChunkTrack). t .advancing) (sym read) ∙ not-false _ (c .before .before .before .before .before .before .before .before .before .before .before .before .before .before .before .before .before .before .before .if2 .left) in
+    let stop = c .before .before .before .before .before .before .before .before .before .before .before .before .before .before .before .before .loop-test .left in
+    let g = subStep d chunk samples (args .line) in
+    let q = subSend d chunk samples (args .line) in
+    let under = down-done g n (chunk .«track_count») silent (omega (arith, stop)) (l .loop .inv .3) ∙ sub-done d chunk samples (args .line) silent in
+    let scaled = c .before .before .before .before .before .before .before .before .before .before .before .apply-volume .ensures ∙ ap (λ (t : ChunkTrack). withFrames (trackScaled t n) n (c .before .before .before .before .before .before .before .before .before .before .before .before .before .before .add-sounds .last .0)) read in
+    let out = c .before .before .before .before .before .before .before .before .before .before .before .apply-volume .last .0 in
+    let has = track-mixed (args .depth) d chunk samples (args .line) deep 512 (omega (arith, start .pre .1 .1 .0 .short)) moves under (c .before .before .before .before .before .before .before .before .before .before .before .before .before .before .add-sounds .ensures) scaled in
+    let sent = down-done q sendFrames (chunk .«track_count») (args .sends .now) (omega (arith, stop)) (l .loop .inv .4) ∙ send-done d chunk samples (args .line) (args .sends .now) in
+    (track-added (args .depth) chunk samples (args .line) (args .to .now) out has (c .before .before .add-frames .ensures), sends-mixed (args .depth) d chunk samples (args .line) (args .sends .now) deep out moves has sent (c .before .before .before .before .before .before .before .add-routes .ensures))
+
+pub +process-spec : {M : Type 1} → statement M
++process-spec = close μ-process λ t. process-lts.spec (
+  track-at-reads.Asked,
+  track-at-reads.Learnt,
+  add-silence-reads.Asked,
+  add-silence-reads.Learnt,
+  process-below t,
+  process.Post,
+  add-sounds-reads.Asked,
+  add-sounds-reads.Learnt,
+  apply-volume-reads.Asked,
+  apply-volume-reads.Learnt,
+  add-routes-reads.Asked,
+  add-routes-reads.Learnt,
+  add-frames-reads.Asked,
+  add-frames-reads.Learnt,
 )
     (process-at t)
     process.Post
     process-Inv-loop
     process-μ-loop
     (process-element-copy-out-frames t)
-    (process-clear-requires t)
     (process-sub-track-at t)
     (process-track-at-requires t)
+    (process-add-silence-requires t)
     (process-same-length t)
     (process-returns t)
+    (process-add-silence-requires-2 t)
     (process-same-length-2 t)
     (process-returns-2 t)
     (process-element-copy-out-j t)
@@ -698,14 +765,17 @@ pub +process-spec : {M : Type 1} → statement M
     (process-sub-process t)
     (process-slice-aggregate-process t)
     (process-process-requires t)
-    (process-slice-aggregate-add-frames t)
-    (process-add-frames-requires t)
     (process-sub-j t)
     (process-loop-less t)
     (process-loop-again t)
+    (process-slice-aggregate-add-sounds t)
     (process-add-sounds-requires t)
+    (process-slice-aggregate-apply-volume t)
     (process-apply-volume-requires t)
+    (process-slice-aggregate-add-routes t)
     (process-add-routes-requires t)
+    (process-slice-aggregate-add-frames t)
+    (process-add-frames-requires t)
     (process-same-length-3 t)
     (process-same-length-4 t)
     (process-returns-3 t)

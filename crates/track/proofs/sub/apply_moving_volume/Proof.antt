@@ -1,98 +1,103 @@
-use Rattle.decibels.specs.declared.decibels.Amplitude.{Amplitude}
-use mathlib.Core.Path.{_≡_, refl, sym, ap, ap₂, _∙_}
+use mathlib.Core.Path.{_≡_, refl, sym, ap, _∙_}
+use mathlib.Core.List.{List}
 use Prim.Native.Nat.{_-_, _≤_}
 use native.Mathlib.Omega.{arith}
-use lib.ListN.{length}
+use lib.ListN.{length, replicate, length-replicate}
+use lib.Ieee.{Float, binary32, ofBits}
 use borrow.Author.Needs.{needs}
+use Rattle.track.specs.declared.frame.Frame.{Frame}
 use Rattle.track.specs.Frame.{withFrames, scaled}
-use Rattle.track.specs.ChunkLaws.{parts-is, parts-amplitude}
 use Rattle.track.specs.FrameLaws.{withFrames-zero, withFrames-put, withFrames-end}
-use Rattle.track.specs.SteadyLaws.{product, volumeScaled, fade-steady}
+use Rattle.track.specs.SteadyLaws.{product, factorOf, scaledEachBy, volume-each}
 use Rattle.track.proofs.sub.apply_moving_volume.Statement.{statement}
 use Rattle.track.proofs.sub.apply_moving_volume.Tie as tie
 use Rattle.track.proofs.sub.apply_moving_volume.Reads as reads
 use Rattle.track.proofs.sub.apply_moving_volume.Lts as lts
-use Rattle.track.proofs.chunk.Level.amplitude_by.Reads as amplitude-by-reads
+use Rattle.track.proofs.chunk.Level.amplitudes.Reads as amplitudes-reads
 use Rattle.track.proofs.chunk.Level.steady_amplitude.Reads as steady-amplitude-reads
 use Rattle.track.proofs.frame.Frame.scaled.Reads as scaled-reads
 use Rattle.track.proofs.frame.frame_at.Reads as frame-at-reads
 use Rattle.track.proofs.frame.put_frame.Reads as put-frame-reads
 
+-- what the factors' array holds at first
+abbrev empty : List Float
+empty = replicate 256 (ofBits binary32 0)
+
 abbrev Inv-loop : tie.InvT-loop
-Inv-loop out₀ frames parts table volume by i₀ out i = (i ≤ frames) × (length out ≡ length out₀) × (out ≡ withFrames (volumeScaled volume by frames) i out₀)
+Inv-loop out₀ frames parts table by factors i₀ out i = (i ≤ frames) × (length out ≡ length out₀) × (out ≡ withFrames (scaledEachBy factors by) i out₀)
 
 abbrev μ-loop : tie.MeasureT-loop
-μ-loop out₀ frames parts table volume by i₀ out i = frames - i
+μ-loop out₀ frames parts table by factors i₀ out i = frames - i
 
--- src/sub.rt:42:9
+-- src/sub.rt:47:9
 steady-amplitude-requires : tie.Need-steady-amplitude-requires Inv-loop μ-loop
 steady-amplitude-requires c κs = search needs
 
--- src/sub.rt:44:5
+-- src/sub.rt:49:5
+amplitudes-requires : tie.Need-amplitudes-requires Inv-loop μ-loop
+amplitudes-requires c κs =
+    let pre = c .before .before .before .before .before .pre in
+    (pre .0, (pre .1 .1 .0 .0, (pre .1 .0 .0, pre .1 .1 .1 .0)))
+
+-- src/sub.rt:51:5
 loop-holds : tie.Need-loop-holds Inv-loop μ-loop
 loop-holds c = (search needs, refl, sym (withFrames-zero _ _))
 
--- src/sub.rt:45:37
-mul-amplitude-by : tie.Need-mul-amplitude-by Inv-loop μ-loop
-mul-amplitude-by c = search needs
-
--- src/sub.rt:45:37
-element-copy-out-amplitude-by : tie.Need-element-copy-out-amplitude-by Inv-loop μ-loop
-element-copy-out-amplitude-by c = search needs
-
--- src/sub.rt:45:13
-amplitude-by-requires : tie.Need-amplitude-by-requires Inv-loop μ-loop
-amplitude-by-requires c κs =
-    let l = c .before .before in
-    let start = l .before .before .before .before .before in
-    let args = start .args in
-    (start .pre .0, (start .pre .1 .1 .0 .0, parts-is (args .frames) (l .loop .i) (args .parts .now) (start .pre .1 .1 .1 .0) (c .before .loop-test .taken) (start .pre .1 .0 .0)))
-
--- src/sub.rt:46:21
+-- src/sub.rt:52:21
 frame-at-requires : tie.Need-frame-at-requires Inv-loop μ-loop
 frame-at-requires c κs = search needs
 
--- src/sub.rt:46:13
+-- src/sub.rt:52:55
+mul-t18 : tie.Need-mul-t18 Inv-loop μ-loop
+mul-t18 c = search needs
+
+-- src/sub.rt:52:55
+array-read-t21 : tie.Need-array-read-t21 Inv-loop μ-loop
+array-read-t21 c = search needs
+
+-- src/sub.rt:52:13
 scaled-requires : tie.Need-scaled-requires Inv-loop μ-loop
 scaled-requires c κs = search needs
 
--- src/sub.rt:47:9
+-- src/sub.rt:53:9
 put-frame-requires : tie.Need-put-frame-requires Inv-loop μ-loop
 put-frame-requires c κs = search needs
 
--- src/sub.rt:48:9
+-- src/sub.rt:54:9
 add-i : tie.Need-add-i Inv-loop μ-loop
 add-i c = search needs
 
--- src/sub.rt:44:5
+-- src/sub.rt:51:5
 loop-less : tie.Need-loop-less Inv-loop μ-loop
 loop-less c = search needs
 
--- src/sub.rt:44:5
+-- src/sub.rt:51:5
 loop-again : tie.Need-loop-again Inv-loop μ-loop
 loop-again c =
-    let l = c .before .before .before .before .before .before .before .before .before .before .before .before in
-    let start = l .before .before .before .before .before in
+    let l = c .before .before .before .before .before .before .before .before .before in
+    let start = c .before .before .before .before .before .before .before .before .before .before .before .before .before .before .before .before in
     let args = start .args in
-    let h = c .before .before .before .before .before .before .before .before .before .before .before .loop-test .taken in
+    let h = c .before .before .before .before .before .before .before .before .loop-test .taken in
     let inv = l .loop .inv in
-    let by = l .before .steady-amplitude .result in
-    let a = c .before .before .before .before .before .before .before .before .before .amplitude-by .ensures ∙ parts-amplitude (args .frames) (l .loop .i) (args .parts .now) (start .pre .1 .1 .1 .0) h (args .track .volume) in
-    let e = withFrames-put (volumeScaled (args .track .volume) by (args .frames)) (l .loop .i) (args .out .now) (omega (arith, h, start .pre .1 .0 .1)) (inv .1) (inv .2) (c .before .before .before .before .scaled .ensures ∙ ap₂ scaled (c .before .before .before .before .before .before .before .frame-at .ensures) (ap (λ (x : Amplitude). product x by) a)) (c .before .before .put-frame .ensures) in
+    let by = l .before .before .before .steady-amplitude .result in
+    let factors = l .before .amplitudes .last .1 .1 .1 .1 .0 in
+    let e = withFrames-put (scaledEachBy factors by) (l .loop .i) (args .out .now) (omega (arith, h, start .pre .1 .0 .1)) (inv .1) (inv .2) (c .before .before .before .before .scaled .ensures ∙ ap (λ (a : Frame). scaled a (product (factorOf factors (l .loop .i)) by)) (c .before .before .before .before .before .before .frame-at .ensures)) (c .before .before .put-frame .ensures) in
     (omega (arith, h, inv .0), e .0, e .1)
 
--- src/sub.rt:26:1
+-- src/sub.rt:31:1
 same-length : tie.Need-same-length Inv-loop μ-loop
 same-length c = search needs
 
--- src/sub.rt:26:1
+-- src/sub.rt:31:1
 returns : tie.Need-returns Inv-loop μ-loop
 returns c =
     let l = c .before in
-    let start = l .before .before .before .before .before in
+    let start = c .before .before .before .before .before .before .before .before in
     let args = start .args in
-    withFrames-end (volumeScaled (args .track .volume) (l .before .steady-amplitude .result) (args .frames)) (args .out .now) (omega (arith, c .loop-test .left, l .loop .inv .0)) (l .loop .inv .2)
-    ∙ fade-steady (args .frames) (start .pre .1 .0 .0) (args .track) (args .out .now) (start .pre .1 .1 .1 .1) (start .pre .1 .1 .0 .1) (l .before .steady-amplitude .ensures)
+    let made = l .before .amplitudes in
+    let by = l .before .before .before .steady-amplitude in
+    withFrames-end (scaledEachBy (made .last .1 .1 .1 .1 .0) (by .result)) (args .out .now) (omega (arith, c .loop-test .left, l .loop .inv .0)) (l .loop .inv .2)
+    ∙ volume-each (args .frames) (start .pre .1 .0 .0) (args .track) (args .out .now) empty (start .pre .1 .1 .1 .1) (start .pre .1 .1 .0 .1) (by .ensures) (length-replicate 256 (ofBits binary32 0)) (made .ensures)
 
 pub apply-moving-volume-spec : {M : Type 1} → statement M
 apply-moving-volume-spec =
@@ -101,11 +106,11 @@ apply-moving-volume-spec =
     Inv-loop
     μ-loop
     steady-amplitude-requires
+    amplitudes-requires
     loop-holds
-    mul-amplitude-by
-    element-copy-out-amplitude-by
-    amplitude-by-requires
     frame-at-requires
+    mul-t18
+    array-read-t21
     scaled-requires
     put-frame-requires
     add-i
