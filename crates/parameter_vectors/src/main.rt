@@ -28,7 +28,7 @@ fn run_rows(text: &[u8]) -> Tally {
 }
 
 fn main() {
-    let mut buffer = [0u8; 262144];
+    let mut buffer = vectors::buffer();
     let n = vectors::read(b"parameter.txt", &mut buffer);
     let tally = run_rows(&buffer[..n]);
     vectors::report(b"parameter", tally.checked, tally.wrong);

@@ -87,7 +87,7 @@ fn run_rows(list: List, text: &[u8]) -> Tally {
 }
 
 fn run_list(list: List, name: &[u8], path: &[u8]) {
-    let mut buffer = [0u8; 524288];
+    let mut buffer = vectors::buffer();
     let n = vectors::read(path, &mut buffer);
     let tally = run_rows(list, &buffer[..n]);
     vectors::report(name, tally.checked, tally.wrong);
