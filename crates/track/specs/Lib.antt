@@ -17,3 +17,5 @@ pub mod Mix
 pub mod MixLaws
 pub mod SoundLaws
 pub mod SteadyLaws
+pub mod Owners
+pub mod OwnersLaws

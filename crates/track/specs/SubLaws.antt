@@ -90,9 +90,6 @@ module _ (d : ℕ) (c : Chunk) (samples : List Float) (line j : ℕ) (l : List F
       ap (λ (k : ℕ). withFrames (withTrack d c samples k) (c .frames) l) (line-of j h)
       ∙ sym (step-picked (trackLine c (j - 1) .parent) line (λ i x. added x (trackFrame d c samples (suc (j - 1)) i)) (c .frames) l e)
 
-  pub sub-left : (trackLine c (j - 1) .parent ≡ line → ⊥) → withFrames (subStep d c samples line (j - 1)) (c .frames) l ≡ l
-  sub-left e = step-left (trackLine c (j - 1) .parent) line (λ i x. added x (trackFrame d c samples (suc (j - 1)) i)) (c .frames) l e
-
   pub send-taken : 0 < j → trackLine c (j - 1) .parent ≡ line → withFrames (withSendsOf d c samples j) sendFrames l ≡ withFrames (subSend d c samples line (j - 1)) sendFrames l
   unfolding withSendsOf
   send-taken h e =
@@ -101,11 +98,16 @@ module _ (d : ℕ) (c : Chunk) (samples : List Float) (line j : ℕ) (l : List F
       (λ k p q a. onSends-cong (c .frames) (λ s i a. withTrackSends d c samples (suc (j - 1)) s i a) (λ s i x. cond (eqb (trackLine c (j - 1) .parent) line) (withTrackSends d c samples (suc (j - 1)) s i x) x) k a
       (λ s i b. sym (picks-eq (trackLine c (j - 1) .parent) line (withTrackSends d c samples (suc (j - 1)) s i a) a e)))
 
-  pub send-left : (trackLine c (j - 1) .parent ≡ line → ⊥) → withFrames (subSend d c samples line (j - 1)) sendFrames l ≡ l
-  send-left e =
-      withFrames-same (subSend d c samples line (j - 1)) sendFrames l
-      (λ k p a. onSends-same (c .frames) (λ s i x. cond (eqb (trackLine c (j - 1) .parent) line) (withTrackSends d c samples (suc (j - 1)) s i x) x) k a
-      (λ s i. leaves-eq (trackLine c (j - 1) .parent) line (withTrackSends d c samples (suc (j - 1)) s i a) a e))
+-- a track that stands below another one is passed over
+module _ (d : ℕ) (c : Chunk) (samples : List Float) (line k : ℕ) (e : trackLine c k .parent ≡ line → ⊥) (l : List Float) where
+  pub sub-left : withFrames (subStep d c samples line k) (c .frames) l ≡ l
+  sub-left = step-left (trackLine c k .parent) line (λ i x. added x (trackFrame d c samples (suc k) i)) (c .frames) l e
+
+  pub send-left : withFrames (subSend d c samples line k) sendFrames l ≡ l
+  send-left =
+      withFrames-same (subSend d c samples line k) sendFrames l
+      (λ i p a. onSends-same (c .frames) (λ s i x. cond (eqb (trackLine c k .parent) line) (withTrackSends d c samples (suc k) s i x) x) i a
+      (λ s i. leaves-eq (trackLine c k .parent) line (withTrackSends d c samples (suc k) s i a) a e))
 
 module _ (d : ℕ) (c : Chunk) (samples : List Float) (line : ℕ) (l : List Float) where
   pub sub-done : withFrames (λ i a. downto (λ j x. subStep d c samples line j i x) (c .«track_count») a) (c .frames) l ≡ withFrames (subSum d c samples line) (c .frames) l

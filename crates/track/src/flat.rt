@@ -15,14 +15,16 @@ use crate::chunk::Level;
 use decibels::Amplitude;
 use decibels::Decibels;
 
-// Where a column of `places` begins. The tracks' parents begin it.
+// Where a column of `places` begins.
+pub const PARENTS: usize = 0;
+
 const ADVANCING: usize = 32;
 
 const ROUTE_TRACKS: usize = 64;
 
 const ROUTE_SENDS: usize = 128;
 
-const SOUND_TRACKS: usize = 192;
+pub const SOUND_TRACKS: usize = 192;
 
 const SOUND_STARTS: usize = 256;
 

@@ -6,23 +6,27 @@ ghost use Rattle.gain_table.specs.GainTable.{IsGainTable};
 ghost use Rattle.track.specs.Frame.{withFrames};
 ghost use Rattle.track.specs.Chunk.{ChunkOk, IsParts};
 ghost use Rattle.track.specs.Flat.{chunkFrom};
+ghost use Rattle.track.specs.Owners.{subTrackLinks, soundLinks};
 ghost use Rattle.track.specs.Sub.{sendFrames};
 ghost use Rattle.track.specs.Mix.{mixedSet, tracksSet, withAllSends, withSendTracks};
 use crate::chunk::Chunk;
 use crate::chunk::parts_of;
 use crate::flat::FRAMES;
+use crate::flat::PARENTS;
 use crate::flat::SEND_COUNT;
+use crate::flat::SOUND_COUNT;
+use crate::flat::SOUND_TRACKS;
 use crate::flat::TRACK_COUNT;
 use crate::flat::flatten;
 use crate::flat::main_level;
 use crate::flat::send_at;
-use crate::flat::track_at;
 use crate::frame::clear;
 use crate::send::add_send;
 use crate::send::apply_level;
 use crate::sound::add_sounds;
 use crate::sub;
 use crate::sub::WIDTH;
+use links::links_of;
 
 // How many levels of tracks there are.
 const LEVELS: usize = 4;
@@ -31,6 +35,8 @@ const LEVELS: usize = 4;
 fn process_tracks(
     places: &[usize; 389],
     values: &[f32; 210],
+    sub_tracks: &[usize; 97],
+    sounds: &[usize; 97],
     parts: &[f32; 256],
     table: &[u64; 1345],
     samples: &[f32],
@@ -39,6 +45,7 @@ fn process_tracks(
 )
     requires { ⌜ IsGainTable (now table) ⌝ }
     requires { ⌜ ChunkOk (chunkFrom (now places) (now values)) (now samples) ⌝ }
+    requires { ⌜ (now «sub_tracks» ≡ subTrackLinks (chunkFrom (now places) (now values))) × (now sounds ≡ soundLinks (chunkFrom (now places) (now values))) ⌝ }
     requires { ⌜ IsParts (chunkFrom (now places) (now values) .frames) (now parts) ⌝ }
     requires { ⌜ 2 * chunkFrom (now places) (now values) .frames ≤ length (now out) ⌝ }
     requires { ⌜ length (now sends) ≡ 2 * sendFrames ⌝ }
@@ -47,13 +54,22 @@ fn process_tracks(
 {
     let frames = places[FRAMES];
     clear(out, frames);
-    let mut j = places[TRACK_COUNT];
+    let mut j = sub_tracks[0];
     while 0 < j {
-        let track = track_at(places, values, j - 1);
-        if track.parent == 0 {
-            sub::process(places, values, parts, table, samples, j, LEVELS, out, sends);
-        }
-        j -= 1;
+        sub::process(
+            places,
+            values,
+            sub_tracks,
+            sounds,
+            parts,
+            table,
+            samples,
+            j,
+            LEVELS,
+            out,
+            sends,
+        );
+        j = sub_tracks[32 + j];
     }
 }
 
@@ -102,9 +118,21 @@ pub fn process_flat(
 {
     let mut sends = [0.0f32; 4096];
     let frames = places[FRAMES];
-    process_tracks(places, values, parts, table, samples, out, &mut sends);
+    let sub_tracks = links_of(places, PARENTS, places[TRACK_COUNT]);
+    let sounds = links_of(places, SOUND_TRACKS, places[SOUND_COUNT]);
+    process_tracks(
+        places,
+        values,
+        &sub_tracks,
+        &sounds,
+        parts,
+        table,
+        samples,
+        out,
+        &mut sends,
+    );
     add_sends(places, values, parts, table, samples, &sends, out);
-    add_sounds(out, samples, places, values, 0);
+    add_sounds(out, samples, places, values, &sounds, 0);
     let main = main_level(places, values);
     apply_level(out, main, frames, parts, table);
 }

@@ -6,10 +6,10 @@ ghost use lib.ListN.{length};
 ghost use Rattle.track.specs.Frame.{withFrames, placed};
 ghost use Rattle.track.specs.Chunk.{ChunkOk};
 ghost use Rattle.track.specs.Flat.{chunkFrom};
+ghost use Rattle.track.specs.Owners.{soundLinks};
 ghost use Rattle.track.specs.Sound.{addedSound, addedZero, withSounds};
 use crate::chunk::ChunkSound;
 use crate::flat::FRAMES;
-use crate::flat::SOUND_COUNT;
 use crate::flat::sound_at;
 use crate::frame::Frame;
 use crate::frame::frame_at;
@@ -66,19 +66,20 @@ pub fn add_sounds(
     samples: &[f32],
     places: &[usize; 389],
     values: &[f32; 210],
+    links: &[usize; 97],
     line: usize,
 )
     requires { ⌜ ChunkOk (chunkFrom (now places) (now values)) (now samples) ⌝ }
+    requires { ⌜ now links ≡ soundLinks (chunkFrom (now places) (now values)) ⌝ }
     requires { ⌜ 2 * chunkFrom (now places) (now values) .frames ≤ length (now to) ⌝ }
+    requires { ⌜ line ≤ 32 ⌝ }
     ensures { λ _. ⌜ now (to .exit) ≡ withFrames (withSounds (chunkFrom (now (places .entry)) (now (values .entry))) (now (samples .entry)) line) (chunkFrom (now (places .entry)) (now (values .entry)) .frames) (now (to .entry)) ⌝ }
 {
     let frames = places[FRAMES];
-    let mut k = places[SOUND_COUNT];
+    let mut k = links[line];
     while 0 < k {
-        k -= 1;
-        let sound = sound_at(places, values, k);
-        if sound.track == line {
-            add_sound(to, samples, sound, frames);
-        }
+        let sound = sound_at(places, values, k - 1);
+        add_sound(to, samples, sound, frames);
+        k = links[32 + k];
     }
 }

@@ -7,11 +7,11 @@ ghost use Rattle.gain_table.specs.GainTable.{IsGainTable};
 ghost use Rattle.track.specs.Frame.{withFrames};
 ghost use Rattle.track.specs.Chunk.{ChunkOk, isSteady, LevelInRange, IsParts};
 ghost use Rattle.track.specs.Flat.{chunkFrom};
+ghost use Rattle.track.specs.Owners.{subTrackLinks, soundLinks};
 ghost use Rattle.track.specs.Sub.{trackScaled, withTrack, withRoutesFrom, withSendsOf, sendFrames};
 use crate::chunk::ChunkTrack;
 use crate::flat::FRAMES;
 use crate::flat::ROUTE_COUNT;
-use crate::flat::TRACK_COUNT;
 use crate::flat::route_at;
 use crate::flat::track_at;
 use crate::frame::add_frames;
@@ -144,6 +144,8 @@ fn add_routes(
 pub fn process(
     places: &[usize; 389],
     values: &[f32; 210],
+    sub_tracks: &[usize; 97],
+    sounds: &[usize; 97],
     parts: &[f32; 256],
     table: &[u64; 1345],
     samples: &[f32],
@@ -154,6 +156,7 @@ pub fn process(
 )
     requires { ⌜ IsGainTable (now table) ⌝ }
     requires { ⌜ ChunkOk (chunkFrom (now places) (now values)) (now samples) ⌝ }
+    requires { ⌜ (now «sub_tracks» ≡ subTrackLinks (chunkFrom (now places) (now values))) × (now sounds ≡ soundLinks (chunkFrom (now places) (now values))) ⌝ }
     requires { ⌜ IsParts (chunkFrom (now places) (now values) .frames) (now parts) ⌝ }
     requires { ⌜ (1 ≤ line) × (line ≤ chunkFrom (now places) (now values) .«track_count») ⌝ }
     requires { ⌜ 2 * chunkFrom (now places) (now values) .frames ≤ length (now to) ⌝ }
@@ -172,25 +175,24 @@ pub fn process(
         return;
     }
     let mut out = [0.0f32; 512];
-    let mut j = places[TRACK_COUNT];
+    let mut j = sub_tracks[line];
     while 0 < j {
-        let below = track_at(places, values, j - 1);
-        if below.parent == line {
-            process(
-                places,
-                values,
-                parts,
-                table,
-                samples,
-                j,
-                depth - 1,
-                &mut out,
-                sends,
-            );
-        }
-        j -= 1;
+        process(
+            places,
+            values,
+            sub_tracks,
+            sounds,
+            parts,
+            table,
+            samples,
+            j,
+            depth - 1,
+            &mut out,
+            sends,
+        );
+        j = sub_tracks[32 + j];
     }
-    add_sounds(&mut out, samples, places, values, line);
+    add_sounds(&mut out, samples, places, values, sounds, line);
     apply_volume(&mut out, track, frames, parts, table);
     add_routes(sends, &out, places, values, samples, line);
     add_frames(to, &out, frames);

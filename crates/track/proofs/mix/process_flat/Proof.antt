@@ -11,40 +11,62 @@ use Rattle.track.specs.Send.{levelScaled}
 use Rattle.track.specs.Sub.{sendFrames}
 use Rattle.track.specs.Mix.{tracksSet, withAllSends, withSendTracks}
 use Rattle.track.specs.FrameLaws.{kept}
+use Rattle.track.specs.OwnersLaws.{tracks-linked, sounds-linked}
 use Rattle.track.specs.MixLaws.{chunk-mixed}
 use borrow.Author.Needs.{needs}
 use Rattle.track.proofs.mix.process_flat.Statement.{statement}
 use Rattle.track.proofs.mix.process_flat.Tie as tie
 use Rattle.track.proofs.mix.process_flat.Reads as reads
 use Rattle.track.proofs.mix.process_flat.Lts as lts
+use Rattle.links.proofs.links_of.Reads as links-of-reads
 use Rattle.track.proofs.flat.main_level.Reads as main-level-reads
 use Rattle.track.proofs.mix.add_sends.Reads as add-sends-reads
 use Rattle.track.proofs.mix.process_tracks.Reads as process-tracks-reads
 use Rattle.track.proofs.send.apply_level.Reads as apply-level-reads
 use Rattle.track.proofs.sound.add_sounds.Reads as add-sounds-reads
 
--- src/mix.rt:107:18
+-- src/mix.rt:120:18
 element-copy-out-frames : tie.Need-element-copy-out-frames
 element-copy-out-frames c = search needs
 
--- src/mix.rt:108:64
+-- src/mix.rt:121:48
+element-copy-out-links-of : tie.Need-element-copy-out-links-of
+element-copy-out-links-of c = search needs
+
+-- src/mix.rt:121:22
+links-of-requires : tie.Need-links-of-requires
+links-of-requires c κs = search needs
+
+-- src/mix.rt:122:49
+element-copy-out-links-of-2 : tie.Need-element-copy-out-links-of-2
+element-copy-out-links-of-2 c = search needs
+
+-- src/mix.rt:122:18
+links-of-requires-2 : tie.Need-links-of-requires-2
+links-of-requires-2 c κs = search needs
+
+-- src/mix.rt:132:9
 slice-aggregate-process-tracks : tie.Need-slice-aggregate-process-tracks
 slice-aggregate-process-tracks c = search needs
 
--- src/mix.rt:108:5
+-- src/mix.rt:123:5
 process-tracks-requires : tie.Need-process-tracks-requires
 process-tracks-requires c κs =
-    let start = c .before .before .before .before .before in
-    (start .pre .0, (start .pre .1 .0, (start .pre .1 .1 .0, (start .pre .1 .1 .1, length-replicate 4096 (ofBits binary32 0)))))
+    let start = c .before .before .before .before .before .before .before .before .before .before .before in
+    let args = start .args in
+    let ok = start .pre .1 .0 in
+    let places = args .places .now in
+    let values = args .values .now in
+    (start .pre .0, (ok, ((tracks-linked places values (ok .tracks) (c .before .before .before .before .before .before .links-of .ensures), sounds-linked places values (ok .sounds) (c .before .before .before .before .links-of2 .ensures)), (start .pre .1 .1 .0, (start .pre .1 .1 .1, length-replicate 4096 (ofBits binary32 0))))))
 
--- src/mix.rt:109:54
+-- src/mix.rt:134:54
 slice-aggregate-add-sends : tie.Need-slice-aggregate-add-sends
 slice-aggregate-add-sends c = search needs
 
--- src/mix.rt:109:5
+-- src/mix.rt:134:5
 add-sends-requires : tie.Need-add-sends-requires
 add-sends-requires c κs =
-    let start = c .before .before .before .before .before .before .before .before .before .before .before in
+    let start = c .before .before .before .before .before .before .before .before .before .before .before .before .before .before .before .before .before in
     let args = start .args in
     let chunk = chunkFrom (args .places .now) (args .values .now) in
     let samples = args .samples .now in
@@ -52,54 +74,68 @@ add-sends-requires c κs =
     let a = kept (tracksSet chunk samples) (chunk .frames) (args .out .now) (t .0) in
     (start .pre .0, (start .pre .1 .0, (start .pre .1 .1 .0, (omega (arith, a, start .pre .1 .1 .1), kept (withAllSends chunk samples) sendFrames (replicate 4096 (ofBits binary32 0)) (t .1) ∙ length-replicate 4096 (ofBits binary32 0)))))
 
--- src/mix.rt:110:5
+-- src/mix.rt:135:5
 add-sounds-requires : tie.Need-add-sounds-requires
-add-sounds-requires c κs = search needs
-
--- src/mix.rt:111:9
-main-level-requires : tie.Need-main-level-requires
-main-level-requires c κs = search needs
-
--- src/mix.rt:112:5
-apply-level-requires : tie.Need-apply-level-requires
-apply-level-requires c κs =
-    let start = c .before .before .before .before .before .before .before .before .before .before .before .before .before .before .before .before .before .before .before .before in
+add-sounds-requires c κs =
+    let start = c .before .before .before .before .before .before .before .before .before .before .before .before .before .before .before .before .before .before .before .before .before .before in
     let args = start .args in
     let chunk = chunkFrom (args .places .now) (args .values .now) in
     let samples = args .samples .now in
-    let tracks = c .before .before .before .before .before .before .before .before .before .before .before .before .before .before .process-tracks in
-    let sent = c .before .before .before .before .before .before .before .before .add-sends in
+    let ok = start .pre .1 .0 in
+    let tracks = c .before .before .before .before .before .before .before .before .before .before .process-tracks in
+    let sent = c .before .before .before .before .add-sends in
+    let a = kept (tracksSet chunk samples) (chunk .frames) (args .out .now) (tracks .ensures .0) in
+    let b = kept (withSendTracks chunk (tracks .last .1 .1 .1 .1 .1 .1 .1 .1 .0)) (chunk .frames) (tracks .last .1 .1 .1 .1 .1 .1 .1 .0) (sent .ensures) in
+    (ok, (sounds-linked (args .places .now) (args .values .now) (ok .sounds) (c .before .before .before .before .before .before .before .before .before .before .before .before .before .before .before .links-of2 .ensures), (omega (arith, a, b, start .pre .1 .1 .1), omega arith)))
+
+-- src/mix.rt:136:9
+main-level-requires : tie.Need-main-level-requires
+main-level-requires c κs = search needs
+
+-- src/mix.rt:137:5
+apply-level-requires : tie.Need-apply-level-requires
+apply-level-requires c κs =
+    let start = c .before .before .before .before .before .before .before .before .before .before .before .before .before .before .before .before .before .before .before .before .before .before .before .before .before .before .before in
+    let args = start .args in
+    let chunk = chunkFrom (args .places .now) (args .values .now) in
+    let samples = args .samples .now in
+    let tracks = c .before .before .before .before .before .before .before .before .before .before .before .before .before .before .before .process-tracks in
+    let sent = c .before .before .before .before .before .before .before .before .before .add-sends in
     let n = chunk .frames in
     let a = kept (tracksSet chunk samples) n (args .out .now) (tracks .ensures .0) in
-    let b = kept (withSendTracks chunk (tracks .last .1 .1 .1 .1 .1 .1 .0)) n (tracks .last .1 .1 .1 .1 .1 .0) (sent .ensures) in
+    let b = kept (withSendTracks chunk (tracks .last .1 .1 .1 .1 .1 .1 .1 .1 .0)) n (tracks .last .1 .1 .1 .1 .1 .1 .1 .0) (sent .ensures) in
     let d = kept (withSounds chunk samples 0) n (sent .last .1 .1 .1 .1 .1 .1 .0) (c .before .before .before .before .add-sounds .ensures) in
     let ok = start .pre .1 .0 in
     (start .pre .0, ((ok .short, omega (arith, a, b, d, start .pre .1 .1 .1)), (subst LevelInRange (sym (c .before .main-level .ensures)) (ok .mainLevel), start .pre .1 .1 .0)))
 
--- src/mix.rt:92:1
+-- src/mix.rt:105:1
 same-length : tie.Need-same-length
 same-length c = search needs
 
--- src/mix.rt:92:1
+-- src/mix.rt:105:1
 returns : tie.Need-returns
 unfolding ofBits ofInt
 returns c =
-    let start = c .before .before .before .before .before .before .before .before .before .before .before .before .before .before .before .before .before .before .before .before .before .before .before in
+    let start = c .before .before .before .before .before .before .before .before .before .before .before .before .before .before .before .before .before .before .before .before .before .before .before .before .before .before .before .before .before .before in
     let args = start .args in
     let chunk = chunkFrom (args .places .now) (args .values .now) in
     let samples = args .samples .now in
     let n = chunk .frames in
     let ok = start .pre .1 .0 in
-    let tracks = c .before .before .before .before .before .before .before .before .before .before .before .before .before .before .before .before .before .process-tracks .ensures in
+    let tracks = c .before .before .before .before .before .before .before .before .before .before .before .before .before .before .before .before .before .before .process-tracks .ensures in
     let heard = c .before .before .before .before .before .before .before .add-sounds in
     let scaled = c .before .before .apply-level .ensures ∙ ap (λ (x : Level). withFrames (levelScaled x n) n (heard .last .0)) (c .before .before .before .before .main-level .ensures) in
-    chunk-mixed chunk samples _ (ok .short) (tracks .1) (args .out .now) (ok .sends) (tracks .0) (c .before .before .before .before .before .before .before .before .before .before .before .add-sends .ensures) (heard .ensures) scaled
+    chunk-mixed chunk samples _ (ok .short) (tracks .1) (args .out .now) (ok .sends) (tracks .0) (c .before .before .before .before .before .before .before .before .before .before .before .before .add-sends .ensures) (heard .ensures) scaled
 
 pub process-flat-spec : {M : Type 1} → statement M
 process-flat-spec =
     tie.close
     (tie.spec
     element-copy-out-frames
+    element-copy-out-links-of
+    links-of-requires
+    element-copy-out-links-of-2
+    links-of-requires-2
     slice-aggregate-process-tracks
     process-tracks-requires
     slice-aggregate-add-sends

@@ -1,14 +1,11 @@
 use mathlib.Core.Path.{_≡_, refl, sym, ap, _∙_, subst}
 use mathlib.Core.Bool.{Bool, true, false, not}
-use mathlib.Core.Logic.{⊎-elim}
 use mathlib.Core.List.{List}
 use Prim.Native.Nat.{suc, _-_, _≤_, zero-le}
-use native.Mathlib.Nat.{le-refl}
 use native.Mathlib.Omega.{arith}
 use lib.ListN.{length, replicate}
 use lib.Ieee.{Float, ofBits, ofInt}
 use borrow.Author.Needs.{needs}
-use Rattle.laws.specs.Loop.{downto}
 use Rattle.track.specs.declared.chunk.Chunk.{Chunk}
 use Rattle.track.specs.declared.chunk.ChunkTrack.{ChunkTrack}
 use Rattle.track.specs.declared.chunk.Level.{Level}
@@ -18,7 +15,9 @@ use Rattle.track.specs.Flat.{chunkFrom}
 use Rattle.track.specs.Sound.{addedZero, withSounds}
 use Rattle.track.specs.Sub.{sendFrames, trackScaled}
 use Rattle.track.specs.FrameLaws.{kept, placed-all}
-use Rattle.track.specs.TurnLaws.{turns, turn-length, down-turn, down-done}
+use Rattle.track.specs.TurnLaws.{turn-length}
+use Rattle.track.specs.Owners.{subTrackLinks}
+use Rattle.track.specs.OwnersLaws.{Follows, follow-start, follow-less, follow-turn, follow-done}
 use Rattle.track.specs.SubLaws.{subStep, subSend, sub-taken, sub-left, send-taken, send-left, sub-done, send-done, track-added, track-mixed, track-stopped, track-none, sends-mixed, sends-stopped, sends-none}
 use Prim.Native.Nat.{ℕ, _<_}
 use borrow.Fn.Kinds.{In}
@@ -47,26 +46,29 @@ not-false : (b : Bool) → not b ≡ false → b ≡ true
 not-false true h = refl
 not-false false h = sym h
 
+abbrev parent : Chunk → ℕ → ℕ
+parent c k = trackLine c k .parent
+
 abbrev Inv : Chunk → List Float → ℕ → ℕ → List Float → List Float → List Float → List Float → ℕ → Type 0
-Inv chunk samples line d out₀ sends₀ out sends j = (j ≤ chunk .«track_count») × (length out ≡ 512) × (length sends ≡ length sends₀) × (downto (turns (subStep d chunk samples line) (chunk .frames)) j out ≡ downto (turns (subStep d chunk samples line) (chunk .frames)) (chunk .«track_count») out₀) × (downto (turns (subSend d chunk samples line) sendFrames) j sends ≡ downto (turns (subSend d chunk samples line) sendFrames) (chunk .«track_count») sends₀)
+Inv chunk samples line d out₀ sends₀ out sends j = (length out ≡ 512) × (length sends ≡ length sends₀) × Follows (subStep d chunk samples line) (chunk .frames) (chunk .«track_count») (parent chunk) line out₀ out j × Follows (subSend d chunk samples line) sendFrames (chunk .«track_count») (parent chunk) line sends₀ sends j
 
-abbrev μ-process : Measures 7 process-kinds.ps ℕ
-μ-process κs a = a .1 .1 .1 .1 .1 .1 .0
+abbrev μ-process : Measures 9 process-kinds.ps ℕ
+μ-process κs a = a .1 .1 .1 .1 .1 .1 .1 .1 .0
 
-abbrev process-at : ℕ → In 7 process-kinds.ps
-process-at t = and 7 process-kinds.ps (is 7 process-kinds.ps μ-process t) process.Pre
+abbrev process-at : ℕ → In 9 process-kinds.ps
+process-at t = and 9 process-kinds.ps (is 9 process-kinds.ps μ-process t) process.Pre
 
-abbrev process-below : ℕ → In 7 process-kinds.ps
-process-below t = and 7 process-kinds.ps (falls 7 process-kinds.ps _<_ μ-process t) process.Pre
+abbrev process-below : ℕ → In 9 process-kinds.ps
+process-below t = and 9 process-kinds.ps (falls 9 process-kinds.ps _<_ μ-process t) process.Pre
 
 abbrev process-Inv-loop : process-lts.InvT-loop
-process-Inv-loop places values parts table samples line depth to sends₀ frames track out₀ j₀ sends out j =
+process-Inv-loop places values sub-tracks sounds parts table samples line depth to sends₀ frames track out₀ j₀ sends out j =
     Inv (chunkFrom places values) samples line (depth - 1) out₀ sends₀ out sends j
 
 abbrev process-μ-loop : process-lts.MeasureT-loop
-process-μ-loop places values parts table samples line depth to sends₀ frames track out₀ j₀ sends out j = j
+process-μ-loop places values sub-tracks sounds parts table samples line depth to sends₀ frames track out₀ j₀ sends out j = j
 
--- src/sub.rt:162:18
+-- src/sub.rt:167:18
 process-element-copy-out-frames : (t : ℕ) → process-lts.Need-element-copy-out-frames (
   track-at-reads.Asked,
   track-at-reads.Learnt,
@@ -85,7 +87,7 @@ process-element-copy-out-frames : (t : ℕ) → process-lts.Need-element-copy-ou
 ) (process-at t) process.Post process-Inv-loop process-μ-loop
 process-element-copy-out-frames t c = search needs
 
--- src/sub.rt:163:42
+-- src/sub.rt:168:42
 process-sub-track-at : (t : ℕ) → process-lts.Need-sub-track-at (
   track-at-reads.Asked,
   track-at-reads.Learnt,
@@ -102,9 +104,9 @@ process-sub-track-at : (t : ℕ) → process-lts.Need-sub-track-at (
   add-frames-reads.Asked,
   add-frames-reads.Learnt,
 ) (process-at t) process.Post process-Inv-loop process-μ-loop
-process-sub-track-at t c = c .before .before .before .before .pre .1 .1 .1 .1 .0 .0
+process-sub-track-at t c = c .before .before .before .before .pre .1 .1 .1 .1 .1 .0 .0
 
--- src/sub.rt:163:9
+-- src/sub.rt:168:9
 process-track-at-requires : (t : ℕ) → process-lts.Need-track-at-requires (
   track-at-reads.Asked,
   track-at-reads.Learnt,
@@ -123,9 +125,9 @@ process-track-at-requires : (t : ℕ) → process-lts.Need-track-at-requires (
 ) (process-at t) process.Post process-Inv-loop process-μ-loop
 process-track-at-requires t c κs =
     let start = c .before .before .before .before in
-    omega (arith, start .pre .1 .1 .1 .1 .0 .0, start .pre .1 .1 .1 .1 .0 .1, start .pre .1 .1 .0 .tracks)
+    omega (arith, start .pre .1 .1 .1 .1 .1 .0 .0, start .pre .1 .1 .1 .1 .1 .0 .1, start .pre .1 .1 .0 .tracks)
 
--- src/sub.rt:165:9
+-- src/sub.rt:170:9
 process-add-silence-requires : (t : ℕ) → process-lts.Need-add-silence-requires (
   track-at-reads.Asked,
   track-at-reads.Learnt,
@@ -142,9 +144,9 @@ process-add-silence-requires : (t : ℕ) → process-lts.Need-add-silence-requir
   add-frames-reads.Asked,
   add-frames-reads.Learnt,
 ) (process-at t) process.Post process-Inv-loop process-μ-loop
-process-add-silence-requires t c κs = (c .before .before .before .before .before .before .before .pre .1 .1 .1 .1 .1 .0, zero-le)
+process-add-silence-requires t c κs = (c .before .before .before .before .before .before .before .pre .1 .1 .1 .1 .1 .1 .0, zero-le)
 
--- src/sub.rt:166:9
+-- src/sub.rt:171:9
 process-same-length : (t : ℕ) → process-lts.Need-same-length (
   track-at-reads.Asked,
   track-at-reads.Learnt,
@@ -163,7 +165,7 @@ process-same-length : (t : ℕ) → process-lts.Need-same-length (
 ) (process-at t) process.Post process-Inv-loop process-μ-loop
 process-same-length t c = search needs
 
--- src/sub.rt:166:9
+-- src/sub.rt:171:9
 process-returns : (t : ℕ) → process-lts.Need-returns (
   track-at-reads.Asked,
   track-at-reads.Learnt,
@@ -188,7 +190,7 @@ process-returns t c =
     let none = c .before .before .before .before .if1 .taken in
     (c .before .before .add-silence .ensures ∙ placed-all addedZero (chunk .frames) (args .to .now) ∙ track-none (args .depth) chunk samples (args .line) (args .to .now) none, sends-none (args .depth) chunk samples (args .line) (args .sends .now) none)
 
--- src/sub.rt:169:9
+-- src/sub.rt:174:9
 process-add-silence-requires-2 : (t : ℕ) → process-lts.Need-add-silence-requires-2 (
   track-at-reads.Asked,
   track-at-reads.Learnt,
@@ -205,9 +207,9 @@ process-add-silence-requires-2 : (t : ℕ) → process-lts.Need-add-silence-requ
   add-frames-reads.Asked,
   add-frames-reads.Learnt,
 ) (process-at t) process.Post process-Inv-loop process-μ-loop
-process-add-silence-requires-2 t c κs = (c .before .before .before .before .before .before .before .before .before .pre .1 .1 .1 .1 .1 .0, zero-le)
+process-add-silence-requires-2 t c κs = (c .before .before .before .before .before .before .before .before .before .pre .1 .1 .1 .1 .1 .1 .0, zero-le)
 
--- src/sub.rt:170:9
+-- src/sub.rt:175:9
 process-same-length-2 : (t : ℕ) → process-lts.Need-same-length-2 (
   track-at-reads.Asked,
   track-at-reads.Learnt,
@@ -226,7 +228,7 @@ process-same-length-2 : (t : ℕ) → process-lts.Need-same-length-2 (
 ) (process-at t) process.Post process-Inv-loop process-μ-loop
 process-same-length-2 t c = search needs
 
--- src/sub.rt:170:9
+-- src/sub.rt:175:9
 process-returns-2 : (t : ℕ) → process-lts.Need-returns-2 (
   track-at-reads.Asked,
   track-at-reads.Learnt,
@@ -252,7 +254,26 @@ process-returns-2 t c =
     let stops = ap (λ (t : ChunkTrack). t .advancing) (sym (c .before .before .before .before .before .before .before .track-at .ensures)) ∙ not-true _ (c .before .before .before .before .if2 .taken) in
     (c .before .before .add-silence2 .ensures ∙ placed-all addedZero (chunk .frames) (args .to .now) ∙ track-stopped (args .depth) (args .depth - 1) chunk samples (args .line) (args .to .now) deep stops, sends-stopped (args .depth) (args .depth - 1) chunk samples (args .line) (args .sends .now) deep stops)
 
--- src/sub.rt:173:17
+-- src/sub.rt:178:17
+process-mul-j : (t : ℕ) → process-lts.Need-mul-j (
+  track-at-reads.Asked,
+  track-at-reads.Learnt,
+  add-silence-reads.Asked,
+  add-silence-reads.Learnt,
+  process-below t,
+  process.Post,
+  add-sounds-reads.Asked,
+  add-sounds-reads.Learnt,
+  apply-volume-reads.Asked,
+  apply-volume-reads.Learnt,
+  add-routes-reads.Asked,
+  add-routes-reads.Learnt,
+  add-frames-reads.Asked,
+  add-frames-reads.Learnt,
+) (process-at t) process.Post process-Inv-loop process-μ-loop
+process-mul-j t c = search needs
+
+-- src/sub.rt:178:17
 process-element-copy-out-j : (t : ℕ) → process-lts.Need-element-copy-out-j (
   track-at-reads.Asked,
   track-at-reads.Learnt,
@@ -271,7 +292,7 @@ process-element-copy-out-j : (t : ℕ) → process-lts.Need-element-copy-out-j (
 ) (process-at t) process.Post process-Inv-loop process-μ-loop
 process-element-copy-out-j t c = search needs
 
--- src/sub.rt:174:5
+-- src/sub.rt:179:5
 process-loop-holds : (t : ℕ) → process-lts.Need-loop-holds (
   track-at-reads.Asked,
   track-at-reads.Learnt,
@@ -288,47 +309,23 @@ process-loop-holds : (t : ℕ) → process-lts.Need-loop-holds (
   add-frames-reads.Asked,
   add-frames-reads.Learnt,
 ) (process-at t) process.Post process-Inv-loop process-μ-loop
-process-loop-holds t c = (le-refl _, refl, refl, refl, refl)
+unfolding subTrackLinks
+process-loop-holds t c =
+    let start = c .before .before .before .before .before .before .before .before .before in
+    let args = start .args in
+    let chunk = chunkFrom (args .places .now) (args .values .now) in
+    let samples = args .samples .now in
+    let d = args .depth - 1 in
+    let line = args .line in
+    let owned = start .pre .1 .1 .1 .0 .0 in
+    let few : line ≤ 32 = omega (arith, start .pre .1 .1 .1 .1 .1 .0 .1, start .pre .1 .1 .0 .tracks) in (
+      refl,
+      refl,
+      follow-start (subStep d chunk samples line) (chunk .frames) (chunk .«track_count») (parent chunk) line _ (sub-left d chunk samples line) few owned,
+      follow-start (subSend d chunk samples line) sendFrames (chunk .«track_count») (parent chunk) line (args .sends .now) (send-left d chunk samples line) few owned,
+    )
 
--- src/sub.rt:175:46
-process-sub-track-at-2 : (t : ℕ) → process-lts.Need-sub-track-at-2 (
-  track-at-reads.Asked,
-  track-at-reads.Learnt,
-  add-silence-reads.Asked,
-  add-silence-reads.Learnt,
-  process-below t,
-  process.Post,
-  add-sounds-reads.Asked,
-  add-sounds-reads.Learnt,
-  apply-volume-reads.Asked,
-  apply-volume-reads.Learnt,
-  add-routes-reads.Asked,
-  add-routes-reads.Learnt,
-  add-frames-reads.Asked,
-  add-frames-reads.Learnt,
-) (process-at t) process.Post process-Inv-loop process-μ-loop
-process-sub-track-at-2 t c = omega (arith, c .loop-test .taken)
-
--- src/sub.rt:175:13
-process-track-at-requires-2 : (t : ℕ) → process-lts.Need-track-at-requires-2 (
-  track-at-reads.Asked,
-  track-at-reads.Learnt,
-  add-silence-reads.Asked,
-  add-silence-reads.Learnt,
-  process-below t,
-  process.Post,
-  add-sounds-reads.Asked,
-  add-sounds-reads.Learnt,
-  apply-volume-reads.Asked,
-  apply-volume-reads.Learnt,
-  add-routes-reads.Asked,
-  add-routes-reads.Learnt,
-  add-frames-reads.Asked,
-  add-frames-reads.Learnt,
-) (process-at t) process.Post process-Inv-loop process-μ-loop
-process-track-at-requires-2 t c κs = omega (arith, c .loop-test .taken, c .before .loop .inv .0, c .before .before .before .before .before .before .before .before .before .before .before .pre .1 .1 .0 .tracks)
-
--- src/sub.rt:184:17
+-- src/sub.rt:189:13
 process-sub-process : (t : ℕ) → process-lts.Need-sub-process (
   track-at-reads.Asked,
   track-at-reads.Learnt,
@@ -345,9 +342,9 @@ process-sub-process : (t : ℕ) → process-lts.Need-sub-process (
   add-frames-reads.Asked,
   add-frames-reads.Learnt,
 ) (process-at t) process.Post process-Inv-loop process-μ-loop
-process-sub-process t c = omega (arith, c .before .before .before .before .before .before .before .before .if1 .left)
+process-sub-process t c = omega (arith, c .before .before .before .before .before .if1 .left)
 
--- src/sub.rt:185:17
+-- src/sub.rt:190:13
 process-slice-aggregate-process : (t : ℕ) → process-lts.Need-slice-aggregate-process (
   track-at-reads.Asked,
   track-at-reads.Learnt,
@@ -366,7 +363,7 @@ process-slice-aggregate-process : (t : ℕ) → process-lts.Need-slice-aggregate
 ) (process-at t) process.Post process-Inv-loop process-μ-loop
 process-slice-aggregate-process t c = search needs
 
--- src/sub.rt:177:13
+-- src/sub.rt:180:9
 process-process-requires : (t : ℕ) → process-lts.Need-process-requires (
   track-at-reads.Asked,
   track-at-reads.Learnt,
@@ -384,13 +381,13 @@ process-process-requires : (t : ℕ) → process-lts.Need-process-requires (
   add-frames-reads.Learnt,
 ) (process-at t) process.Post process-Inv-loop process-μ-loop
 process-process-requires t c κs =
-    let start = c .before .before .before .before .before .before .before .before .before .before .before .before .before .before .before .before in
+    let start = c .before .before .before .before .before .before .before .before .before .before .before .before .before in
     let ok = start .pre .1 .1 .0 in
-    let inv = c .before .before .before .before .before .before .loop .inv in
-    (omega (arith, start .pre .0, c .before .before .before .before .before .before .before .before .before .before .if1 .left), (start .pre .1 .0, (ok, (start .pre .1 .1 .1 .0, ((c .before .before .before .before .before .loop-test .taken, inv .0), (omega (arith, ok .short, inv .1), inv .2 ∙ start .pre .1 .1 .1 .1 .1 .1))))))
+    let inv = c .before .before .before .loop .inv in
+    (omega (arith, start .pre .0, c .before .before .before .before .before .before .before .if1 .left), (start .pre .1 .0, (ok, (start .pre .1 .1 .1 .0, (start .pre .1 .1 .1 .1 .0, ((c .before .before .loop-test .taken, inv .2 .few), (omega (arith, ok .short, inv .0), inv .1 ∙ start .pre .1 .1 .1 .1 .1 .1 .1)))))))
 
--- src/sub.rt:189:9
-process-sub-j : (t : ℕ) → process-lts.Need-sub-j (
+-- src/sub.rt:193:24
+process-add-j : (t : ℕ) → process-lts.Need-add-j (
   track-at-reads.Asked,
   track-at-reads.Learnt,
   add-silence-reads.Asked,
@@ -406,9 +403,47 @@ process-sub-j : (t : ℕ) → process-lts.Need-sub-j (
   add-frames-reads.Asked,
   add-frames-reads.Learnt,
 ) (process-at t) process.Post process-Inv-loop process-μ-loop
-process-sub-j t c = omega (arith, c .before .before .before .loop-test .taken)
+process-add-j t c = search (needs, c .before .before .before .before .before .before .before .loop .inv .2 .few, c .before .before .before .before .before .before .before .before .before .before .before .before .before .before .before .before .before .pre .1 .1 .0 .tracks)
 
--- src/sub.rt:174:5
+-- src/sub.rt:193:13
+process-mul-j-2 : (t : ℕ) → process-lts.Need-mul-j-2 (
+  track-at-reads.Asked,
+  track-at-reads.Learnt,
+  add-silence-reads.Asked,
+  add-silence-reads.Learnt,
+  process-below t,
+  process.Post,
+  add-sounds-reads.Asked,
+  add-sounds-reads.Learnt,
+  apply-volume-reads.Asked,
+  apply-volume-reads.Learnt,
+  add-routes-reads.Asked,
+  add-routes-reads.Learnt,
+  add-frames-reads.Asked,
+  add-frames-reads.Learnt,
+) (process-at t) process.Post process-Inv-loop process-μ-loop
+process-mul-j-2 t c = search (needs, c .before .before .before .before .before .before .before .loop .inv .2 .few, c .before .before .before .before .before .before .before .before .before .before .before .before .before .before .before .before .before .pre .1 .1 .0 .tracks)
+
+-- src/sub.rt:193:13
+process-element-copy-out-j-2 : (t : ℕ) → process-lts.Need-element-copy-out-j-2 (
+  track-at-reads.Asked,
+  track-at-reads.Learnt,
+  add-silence-reads.Asked,
+  add-silence-reads.Learnt,
+  process-below t,
+  process.Post,
+  add-sounds-reads.Asked,
+  add-sounds-reads.Learnt,
+  apply-volume-reads.Asked,
+  apply-volume-reads.Learnt,
+  add-routes-reads.Asked,
+  add-routes-reads.Learnt,
+  add-frames-reads.Asked,
+  add-frames-reads.Learnt,
+) (process-at t) process.Post process-Inv-loop process-μ-loop
+process-element-copy-out-j-2 t c = omega (arith, c .before .before .before .before .before .before .before .loop .inv .2 .few, c .before .before .before .before .before .before .before .before .before .before .before .before .before .before .before .before .before .pre .1 .1 .0 .tracks)
+
+-- src/sub.rt:179:5
 process-loop-less : (t : ℕ) → process-lts.Need-loop-less (
   track-at-reads.Asked,
   track-at-reads.Learnt,
@@ -425,9 +460,24 @@ process-loop-less : (t : ℕ) → process-lts.Need-loop-less (
   add-frames-reads.Asked,
   add-frames-reads.Learnt,
 ) (process-at t) process.Post process-Inv-loop process-μ-loop
-process-loop-less t c = omega (arith, c .before .before .before .loop-test .taken)
+unfolding subTrackLinks
+process-loop-less t c =
+    let l = c .before .before .before .before .before .before .before .before in
+    let start = c .before .before .before .before .before .before .before .before .before .before .before .before .before .before .before .before .before .before in
+    let args = start .args in
+    let chunk = chunkFrom (args .places .now) (args .values .now) in
+    let samples = args .samples .now in
+    let d = args .depth - 1 in
+    let line = args .line in
+    let j = l .loop .j in
+    let inv = l .loop .inv in
+    let h = c .before .before .before .before .before .before .before .loop-test .taken in
+    let owned = start .pre .1 .1 .1 .0 .0 in
+    let room : chunk .«track_count» ≤ 64 = omega (arith, start .pre .1 .1 .0 .tracks) in
+    let few : line ≤ 32 = omega (arith, start .pre .1 .1 .1 .1 .1 .0 .1, start .pre .1 .1 .0 .tracks) in
+    follow-less (subStep d chunk samples line) (chunk .frames) (chunk .«track_count») (parent chunk) line _ j (l .loop .out) room few owned h (inv .2)
 
--- src/sub.rt:174:5
+-- src/sub.rt:179:5
 process-loop-again : (t : ℕ) → process-lts.Need-loop-again (
   track-at-reads.Asked,
   track-at-reads.Learnt,
@@ -444,36 +494,32 @@ process-loop-again : (t : ℕ) → process-lts.Need-loop-again (
   add-frames-reads.Asked,
   add-frames-reads.Learnt,
 ) (process-at t) process.Post process-Inv-loop process-μ-loop
+unfolding subTrackLinks
 process-loop-again t c =
-    let start = c .before .before .before .before .before .before .before .before .before .before .before .before .before .before in
+    let l = c .before .before .before .before .before .before .before .before in
+    let start = c .before .before .before .before .before .before .before .before .before .before .before .before .before .before .before .before .before .before in
     let args = start .args in
     let chunk = chunkFrom (args .places .now) (args .values .now) in
     let samples = args .samples .now in
-    let l = c .before .before .before .before in
     let d = args .depth - 1 in
+    let line = args .line in
     let j = l .loop .j in
-    let n = chunk .frames in
     let inv = l .loop .inv in
-    let h = c .before .before .before .loop-test .taken in
-    let parent = ap (λ (t : ChunkTrack). t .parent) (c .before .before .track-at2 .ensures) in
-    let g = subStep d chunk samples (args .line) in
-    let q = subSend d chunk samples (args .line) in
-    let e : c .if3 .out ≡ withFrames (g (j - 1)) n (l .loop .out) = ⊎-elim
-    (λ w. w .8 ∙ w .3 .ensures .0 ∙ sub-taken d chunk samples (args .line) j (l .loop .out) h (sym parent ∙ w .0 .taken))
-    (λ w. w .2 ∙ sym (sub-left d chunk samples (args .line) j (l .loop .out) (λ p. w .0 .left (parent ∙ p))))
-    (c .if3 .came) in
-    let f : c .if3 .sends ≡ withFrames (q (j - 1)) sendFrames (l .loop .sends) = ⊎-elim
-    (λ w. w .7 ∙ w .3 .ensures .1 ∙ send-taken d chunk samples (args .line) j (l .loop .sends) h (sym parent ∙ w .0 .taken))
-    (λ w. w .1 ∙ sym (send-left d chunk samples (args .line) j (l .loop .sends) (λ p. w .0 .left (parent ∙ p))))
-    (c .if3 .came) in (
-      omega (arith, inv .0),
-      turn-length g n silent (l .loop .out) (j - 1) (inv .1) e,
-      turn-length q sendFrames (args .sends .now) (l .loop .sends) (j - 1) (inv .2) f,
-      down-turn g n silent (l .loop .out) j h (inv .3) e,
-      down-turn q sendFrames (args .sends .now) (l .loop .sends) j h (inv .4) f,
+    let h = c .before .before .before .before .before .before .before .loop-test .taken in
+    let owned = start .pre .1 .1 .1 .0 .0 in
+    let room : chunk .«track_count» ≤ 64 = omega (arith, start .pre .1 .1 .0 .tracks) in
+    let few : line ≤ 32 = omega (arith, start .pre .1 .1 .1 .1 .1 .0 .1, start .pre .1 .1 .0 .tracks) in
+    let g = subStep d chunk samples line in
+    let q = subSend d chunk samples line in
+    let e = c .before .before .before .before .process .ensures .0 ∙ sub-taken d chunk samples line j (l .loop .out) h (inv .2 .own h) in
+    let f = c .before .before .before .before .process .ensures .1 ∙ send-taken d chunk samples line j (l .loop .sends) h (inv .3 .own h) in (
+      kept (g (j - 1)) (chunk .frames) (l .loop .out) e ∙ inv .0,
+      turn-length q sendFrames (args .sends .now) (l .loop .sends) (j - 1) (inv .1) f,
+      follow-turn g (chunk .frames) (chunk .«track_count») (parent chunk) line _ j (l .loop .out) (sub-left d chunk samples line) room few owned h (inv .2) e,
+      follow-turn q sendFrames (chunk .«track_count») (parent chunk) line (args .sends .now) j (l .loop .sends) (send-left d chunk samples line) room few owned h (inv .3) f,
     )
 
--- src/sub.rt:191:16
+-- src/sub.rt:195:16
 process-slice-aggregate-add-sounds : (t : ℕ) → process-lts.Need-slice-aggregate-add-sounds (
   track-at-reads.Asked,
   track-at-reads.Learnt,
@@ -492,7 +538,7 @@ process-slice-aggregate-add-sounds : (t : ℕ) → process-lts.Need-slice-aggreg
 ) (process-at t) process.Post process-Inv-loop process-μ-loop
 process-slice-aggregate-add-sounds t c = search needs
 
--- src/sub.rt:191:5
+-- src/sub.rt:195:5
 process-add-sounds-requires : (t : ℕ) → process-lts.Need-add-sounds-requires (
   track-at-reads.Asked,
   track-at-reads.Learnt,
@@ -509,9 +555,12 @@ process-add-sounds-requires : (t : ℕ) → process-lts.Need-add-sounds-requires
   add-frames-reads.Asked,
   add-frames-reads.Learnt,
 ) (process-at t) process.Post process-Inv-loop process-μ-loop
-process-add-sounds-requires t c κs = (c .before .before .before .before .before .before .before .before .before .before .before .before .pre .1 .1 .0, omega (arith, c .before .before .loop .inv .1, c .before .before .before .before .before .before .before .before .before .before .before .before .pre .1 .1 .0 .short))
+process-add-sounds-requires t c κs =
+    let start = c .before .before .before .before .before .before .before .before .before .before .before .before in
+    let ok = start .pre .1 .1 .0 in
+    (ok, (start .pre .1 .1 .1 .0 .1, (omega (arith, c .before .before .loop .inv .0, ok .short), omega (arith, start .pre .1 .1 .1 .1 .1 .0 .1, ok .tracks))))
 
--- src/sub.rt:192:18
+-- src/sub.rt:196:18
 process-slice-aggregate-apply-volume : (t : ℕ) → process-lts.Need-slice-aggregate-apply-volume (
   track-at-reads.Asked,
   track-at-reads.Learnt,
@@ -530,7 +579,7 @@ process-slice-aggregate-apply-volume : (t : ℕ) → process-lts.Need-slice-aggr
 ) (process-at t) process.Post process-Inv-loop process-μ-loop
 process-slice-aggregate-apply-volume t c = search needs
 
--- src/sub.rt:192:5
+-- src/sub.rt:196:5
 process-apply-volume-requires : (t : ℕ) → process-lts.Need-apply-volume-requires (
   track-at-reads.Asked,
   track-at-reads.Learnt,
@@ -553,13 +602,13 @@ process-apply-volume-requires t c κs =
     let chunk = chunkFrom (args .places .now) (args .values .now) in
     let samples = args .samples .now in
     let ok = start .pre .1 .1 .0 in
-    let lines = start .pre .1 .1 .1 .1 .0 in
+    let lines = start .pre .1 .1 .1 .1 .1 .0 in
     let l = c .before .before .before .before .before in
     let heard-length = kept (withSounds chunk samples (args .line)) (chunk .frames) (l .loop .out) (c .before .before .add-sounds .ensures) in
     let level : (f : ChunkTrack → Level) → LevelInRange (f (trackLine chunk (args .line - 1))) → LevelInRange (f (c .before .before .before .before .before .before .before .before .before .before .track-at .result)) = λ f. subst (λ (t : ChunkTrack). LevelInRange (f t)) (sym (c .before .before .before .before .before .before .before .before .before .before .track-at .ensures)) in
-    (start .pre .1 .0, ((ok .short, omega (arith, heard-length, l .loop .inv .1, ok .short)), ((level (λ t. t .volume) (ok .volumes (args .line - 1) (omega (arith, lines .0, lines .1))), level (λ t. t .fade) (ok .fades (args .line - 1) (omega (arith, lines .0, lines .1)))), start .pre .1 .1 .1 .0)))
+    (start .pre .1 .0, ((ok .short, omega (arith, heard-length, l .loop .inv .0, ok .short)), ((level (λ t. t .volume) (ok .volumes (args .line - 1) (omega (arith, lines .0, lines .1))), level (λ t. t .fade) (ok .fades (args .line - 1) (omega (arith, lines .0, lines .1)))), start .pre .1 .1 .1 .1 .0)))
 
--- src/sub.rt:193:23
+-- src/sub.rt:197:23
 process-slice-aggregate-add-routes : (t : ℕ) → process-lts.Need-slice-aggregate-add-routes (
   track-at-reads.Asked,
   track-at-reads.Learnt,
@@ -578,7 +627,7 @@ process-slice-aggregate-add-routes : (t : ℕ) → process-lts.Need-slice-aggreg
 ) (process-at t) process.Post process-Inv-loop process-μ-loop
 process-slice-aggregate-add-routes t c = search needs
 
--- src/sub.rt:193:5
+-- src/sub.rt:197:5
 process-add-routes-requires : (t : ℕ) → process-lts.Need-add-routes-requires (
   track-at-reads.Asked,
   track-at-reads.Learnt,
@@ -603,9 +652,9 @@ process-add-routes-requires t c κs =
     let l = c .before .before .before .before .before .before .before .before .before in
     let heard-length = kept (withSounds chunk samples (args .line)) (chunk .frames) (l .loop .out) (c .before .before .before .before .before .before .add-sounds .ensures) in
     let scaled-length = kept (trackScaled (c .before .before .before .before .before .before .before .before .before .before .before .before .before .before .track-at .result) (chunk .frames)) (chunk .frames) (c .before .before .before .before .before .before .add-sounds .last .0) (c .before .before .before .apply-volume .ensures) in
-    (start .pre .1 .1 .0, (omega (arith, heard-length, scaled-length, l .loop .inv .1, start .pre .1 .1 .0 .short), l .loop .inv .2 ∙ start .pre .1 .1 .1 .1 .1 .1))
+    (start .pre .1 .1 .0, (omega (arith, heard-length, scaled-length, l .loop .inv .0, start .pre .1 .1 .0 .short), l .loop .inv .1 ∙ start .pre .1 .1 .1 .1 .1 .1 .1))
 
--- src/sub.rt:194:20
+-- src/sub.rt:198:20
 process-slice-aggregate-add-frames : (t : ℕ) → process-lts.Need-slice-aggregate-add-frames (
   track-at-reads.Asked,
   track-at-reads.Learnt,
@@ -624,7 +673,7 @@ process-slice-aggregate-add-frames : (t : ℕ) → process-lts.Need-slice-aggreg
 ) (process-at t) process.Post process-Inv-loop process-μ-loop
 process-slice-aggregate-add-frames t c = search needs
 
--- src/sub.rt:194:5
+-- src/sub.rt:198:5
 process-add-frames-requires : (t : ℕ) → process-lts.Need-add-frames-requires (
   track-at-reads.Asked,
   track-at-reads.Learnt,
@@ -649,9 +698,9 @@ process-add-frames-requires t c κs =
     let l = c .before .before .before .before .before .before .before .before .before .before .before .before .before .before in
     let heard-length = kept (withSounds chunk samples (args .line)) (chunk .frames) (l .loop .out) (c .before .before .before .before .before .before .before .before .before .before .before .add-sounds .ensures) in
     let scaled-length = kept (trackScaled (c .before .before .before .before .before .before .before .before .before .before .before .before .before .before .before .before .before .before .before .track-at .result) (chunk .frames)) (chunk .frames) (c .before .before .before .before .before .before .before .before .before .before .before .add-sounds .last .0) (c .before .before .before .before .before .before .before .before .apply-volume .ensures) in
-    (start .pre .1 .1 .1 .1 .1 .0, omega (arith, heard-length, scaled-length, l .loop .inv .1, start .pre .1 .1 .0 .short))
+    (start .pre .1 .1 .1 .1 .1 .1 .0, omega (arith, heard-length, scaled-length, l .loop .inv .0, start .pre .1 .1 .0 .short))
 
--- src/sub.rt:142:1
+-- src/sub.rt:144:1
 process-same-length-3 : (t : ℕ) → process-lts.Need-same-length-3 (
   track-at-reads.Asked,
   track-at-reads.Learnt,
@@ -670,7 +719,7 @@ process-same-length-3 : (t : ℕ) → process-lts.Need-same-length-3 (
 ) (process-at t) process.Post process-Inv-loop process-μ-loop
 process-same-length-3 t c = search needs
 
--- src/sub.rt:142:1
+-- src/sub.rt:144:1
 process-same-length-4 : (t : ℕ) → process-lts.Need-same-length-4 (
   track-at-reads.Asked,
   track-at-reads.Learnt,
@@ -689,7 +738,7 @@ process-same-length-4 : (t : ℕ) → process-lts.Need-same-length-4 (
 ) (process-at t) process.Post process-Inv-loop process-μ-loop
 process-same-length-4 t c = search needs
 
--- src/sub.rt:142:1
+-- src/sub.rt:144:1
 process-returns-3 : (t : ℕ) → process-lts.Need-returns-3 (
   track-at-reads.Asked,
   track-at-reads.Learnt,
@@ -721,11 +770,11 @@ process-returns-3 t c =
     let stop = c .before .before .before .before .before .before .before .before .before .before .before .before .before .before .before .before .loop-test .left in
     let g = subStep d chunk samples (args .line) in
     let q = subSend d chunk samples (args .line) in
-    let under = down-done g n (chunk .«track_count») silent (omega (arith, stop)) (l .loop .inv .3) ∙ sub-done d chunk samples (args .line) silent in
+    let under = follow-done g n (chunk .«track_count») (parent chunk) (args .line) silent (omega (arith, stop)) (l .loop .inv .2) ∙ sub-done d chunk samples (args .line) silent in
     let scaled = c .before .before .before .before .before .before .before .before .before .before .before .apply-volume .ensures ∙ ap (λ (t : ChunkTrack). withFrames (trackScaled t n) n (c .before .before .before .before .before .before .before .before .before .before .before .before .before .before .add-sounds .last .0)) read in
     let out = c .before .before .before .before .before .before .before .before .before .before .before .apply-volume .last .0 in
     let has = track-mixed (args .depth) d chunk samples (args .line) deep 512 (omega (arith, start .pre .1 .1 .0 .short)) moves under (c .before .before .before .before .before .before .before .before .before .before .before .before .before .before .add-sounds .ensures) scaled in
-    let sent = down-done q sendFrames (chunk .«track_count») (args .sends .now) (omega (arith, stop)) (l .loop .inv .4) ∙ send-done d chunk samples (args .line) (args .sends .now) in
+    let sent = follow-done q sendFrames (chunk .«track_count») (parent chunk) (args .line) (args .sends .now) (omega (arith, stop)) (l .loop .inv .3) ∙ send-done d chunk samples (args .line) (args .sends .now) in
     (track-added (args .depth) chunk samples (args .line) (args .to .now) out has (c .before .before .add-frames .ensures), sends-mixed (args .depth) d chunk samples (args .line) (args .sends .now) deep out moves has sent (c .before .before .before .before .before .before .before .add-routes .ensures))
 
 pub +process-spec : {M : Type 1} → statement M
@@ -758,14 +807,15 @@ pub +process-spec : {M : Type 1} → statement M
     (process-add-silence-requires-2 t)
     (process-same-length-2 t)
     (process-returns-2 t)
+    (process-mul-j t)
     (process-element-copy-out-j t)
     (process-loop-holds t)
-    (process-sub-track-at-2 t)
-    (process-track-at-requires-2 t)
     (process-sub-process t)
     (process-slice-aggregate-process t)
     (process-process-requires t)
-    (process-sub-j t)
+    (process-add-j t)
+    (process-mul-j-2 t)
+    (process-element-copy-out-j-2 t)
     (process-loop-less t)
     (process-loop-again t)
     (process-slice-aggregate-add-sounds t)

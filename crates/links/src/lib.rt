@@ -1,0 +1,5 @@
+// Lines of a table by their owner: of each owner the last line, and of each line the one before it
+// with the same owner. So an owner's lines are found, latest first, without a look at the others.
+mod chain;
+
+pub use chain::links_of;
