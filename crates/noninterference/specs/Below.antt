@@ -15,7 +15,8 @@ use Rattle.track.specs.Chunk.{trackLine}
 use Rattle.track.specs.Sub.{overSubTracks}
 use Rattle.noninterference.specs.Lines.{newLine, keptLine, openLine, keptLine-suc, same-test, apart, apart-back, chosen-shut, open-kept}
 use Rattle.noninterference.specs.Chunk.{Without}
-use Rattle.noninterference.specs.Frames.{Same, turn-kept, turn-removed, picked-if, none-picked}
+use Rattle.track.specs.Running.{picked-if}
+use Rattle.noninterference.specs.Frames.{Same, turn-kept, turn-removed, none-picked}
 
 -- a track's turn in the loop of a line
 turn : Chunk → ℕ → (ℕ → Frame → Frame) → ℕ → Frame → Frame

@@ -28,7 +28,8 @@ use Rattle.track.specs.Chunk.{trackLine, soundLine, amountAt, levelAmplitude, t
 use Rattle.track.specs.ChunkLaws.{amount-is, level-admitted}
 use Rattle.track.specs.Sound.{soundFrame, addedSound, withSounds}
 use Rattle.track.specs.Sub.{overSubTracks, trackFrame}
-use Rattle.noninterference.specs.Frames.{Both, Finite, both-map, both-added, both-scaled, both-zero, picked-if}
+use Rattle.track.specs.Running.{Both, both-added, both-zero, picked-if}
+use Rattle.noninterference.specs.Frames.{Finite, both-map, both-scaled}
 use Rattle.noninterference.specs.Parts.{trackSum, track-parts, track-holds}
 
 -- ---- amplitudes

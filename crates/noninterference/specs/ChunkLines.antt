@@ -23,7 +23,7 @@ use Rattle.track.specs.Sound.{soundFrame}
 use Rattle.mixer.specs.declared.mixer.Mixer.{Mixer}
 use Rattle.mixer.specs.Mixer.{stateOf, parameterOf}
 use Rattle.mixer.specs.ChunkOf.{chunkTrack, chunkRoute, chunkSound, emptyChunkTrack, emptyChunkRoute, emptyChunkSound, chunkTracks, chunkRoutes, chunkSounds, chunkOf}
-use Rattle.noninterference.specs.Frames.{Both, both-zero, picked-if}
+use Rattle.track.specs.Running.{Both, both-zero, picked-if}
 use Rattle.noninterference.specs.Bounds.{Size}
 
 -- a table that is filled line by line

@@ -1,41 +1,25 @@
 -- Frames in sums: what holds of both sides of a frame, and the two running sums of a loop over all lines and of the loop over the lines kept.
 -- A running sum fits f32 and is not -0, so that it absorbs zeros. Assumes nothing.
 use mathlib.Core.Path.{_≡_, refl, sym, ap, ap₂, _∙_, subst}
-use mathlib.Core.Logic.{_≢_, _⊎_, inl, inr}
+use mathlib.Core.Logic.{_⊎_, inl, inr}
 use mathlib.Core.Bool.{Bool, true, false, cond, true≢false}
 use Prim.Native.Nat.{ℕ, _<_}
 use lib.Dec.{T}
-use lib.Ieee.{Float, binary32, add, mul, fits, ofInt}
-use lib.Ieee.Fits.{add-fits, mul-fits}
+use lib.Ieee.{Float, binary32, mul}
 use lib.Ieee.Scale.{finite}
 use Rattle.decibels.specs.declared.decibels.Amplitude.{Amplitude}
 use Rattle.laws.specs.Loop.{downto}
 use Rattle.laws.specs.Kept.{rank, downto-kept}
-use Rattle.laws.specs.Float.{posZero, negZero, Zero, positive-zero}
-use Rattle.laws.specs.FloatZero.{absorb, never-negZero, posZero-not-neg, posZero-fits, mul-zero-left}
+use Rattle.laws.specs.Float.{Zero}
+use Rattle.laws.specs.FloatZero.{mul-zero-left}
 use Rattle.track.specs.declared.frame.Frame.{Frame}
-use Rattle.track.specs.Frame.{none, zeroFrame, added, scaled}
+use Rattle.track.specs.Frame.{zeroFrame, added, scaled}
+use Rattle.track.specs.Running.{Both, Fits, Running, running-zero, absorbed, running-added}
 
 -- ---- both sides of a frame
 
-pub record Both (P : Float → Type 0) (a : Frame) : Type 0 where
-  pub left : P (a .left)
-  pub right : P (a .right)
-
-abbrev pub Fits : Float → Type 0
-Fits x = T (fits binary32 x)
-
 abbrev pub Finite : Float → Type 0
 Finite x = T (finite x)
-
--- what a sum that starts at +0.0 stays
-abbrev pub Running : Float → Type 0
-Running x = T (fits binary32 x) × (x ≢ negZero)
-
-module _ {P Q : Float → Type 0} {a b : Frame} where
-  pub both-added : (R : Float → Type 0) → ((x y : Float) → P x → Q y → R (add binary32 x y)) → Both P a → Both Q b → Both R (added a b)
-  unfolding added
-  both-added R h p q = record { left = h (a .left) (b .left) (p .left) (q .left); right = h (a .right) (b .right) (p .right) (q .right) }
 
 module _ {P : Float → Type 0} {a : Frame} where
   pub both-map : (R : Float → Type 0) → ((x : Float) → P x → R x) → Both P a → Both R a
@@ -44,25 +28,6 @@ module _ {P : Float → Type 0} {a : Frame} where
   pub both-scaled : (R : Float → Type 0) (k : Amplitude) → ((x : Float) → P x → R (mul binary32 x (k .0))) → Both P a → Both R (scaled a k)
   unfolding scaled
   both-scaled R k h p = record { left = h (a .left) (p .left); right = h (a .right) (p .right) }
-
--- what holds of +0.0 holds of the frame of zeros
-none-is : none ≡ posZero
-unfolding ofInt
-none-is = refl
-
-pub both-zero : (P : Float → Type 0) → P posZero → Both P zeroFrame
-both-zero P p = record { left = subst P (sym none-is) p; right = subst P (sym none-is) p }
-
-pub zeros : Both Zero zeroFrame
-zeros = both-zero Zero positive-zero
-
-pub scaled-fits : (a : Frame) (k : Amplitude) → Both Fits (scaled a k)
-unfolding scaled
-scaled-fits a k = record { left = mul-fits binary32 (a .left) (k .0); right = mul-fits binary32 (a .right) (k .0) }
-
-pub picked-if : (P : Frame → Type 0) (b : Bool) (x y : Frame) → (T b → P x) → P y → P (cond b x y)
-picked-if P true x y p q = p tt
-picked-if P false x y p q = q
 
 -- ---- a frame with all lines and the one with the lines kept: they are equal, or both are zeros
 
@@ -86,17 +51,7 @@ pub record Same (x y : Frame) : Type 0 where
   pub running : Both Running x
 
 pub same-start : Same zeroFrame zeroFrame
-same-start = record { same = refl; running = both-zero Running (posZero-fits binary32, posZero-not-neg) }
-
-side : Float → Float → Frame
-side l r = record { left = l; right = r }
-
-absorbed : {x t : Frame} → Both Running x → Both Zero t → added x t ≡ x
-unfolding added side
-absorbed {x} {t} r z = ap₂ side (absorb binary32 (x .left) (r .left .0) (r .left .1) (z .left)) (absorb binary32 (x .right) (r .right .0) (r .right .1) (z .right))
-
-running-added : {x t : Frame} → Both Running x → Both Fits t → Both Running (added x t)
-running-added r f = both-added Running (λ x y p q. (add-fits binary32 x y, never-negZero binary32 x y (p .0) q (p .1))) r f
+same-start = record { same = refl; running = running-zero }
 
 pub same-added : {x y t u : Frame} → Same x y → Both Fits t → Alike t u → Same (added x t) (added y u)
 same-added {x} {y} {t} {u} r f a =

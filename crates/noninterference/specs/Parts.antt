@@ -1,11 +1,10 @@
 -- A track's frame in two parts: the sum of what is below it and of its sounds, and what its volume and its state make of the sum. Assumes nothing.
-use mathlib.Core.Path.{_≡_, sym, ap, subst}
+use mathlib.Core.Path.{_≡_, ap}
 use mathlib.Core.Bool.{cond}
 use mathlib.Core.List.{List}
-use Prim.Native.Nat.{ℕ, zero, suc, _-_}
+use Prim.Native.Nat.{ℕ, suc, _-_}
 use native.Mathlib.Numerals.{sub-one}
-use lib.Ieee.{Float, binary32}
-use Rattle.laws.specs.FloatZero.{posZero-fits}
+use lib.Ieee.{Float}
 use Rattle.track.specs.declared.frame.Frame.{Frame}
 use Rattle.track.specs.declared.chunk.Chunk.{Chunk}
 use Rattle.track.specs.declared.chunk.ChunkTrack.{ChunkTrack}
@@ -13,7 +12,7 @@ use Rattle.track.specs.Frame.{zeroFrame, added, scaled}
 use Rattle.track.specs.Chunk.{trackLine, amountAt, trackAmplitude}
 use Rattle.track.specs.Sound.{withSounds}
 use Rattle.track.specs.Sub.{overSubTracks, trackFrame, withRoutes, withTrackSends}
-use Rattle.noninterference.specs.Frames.{Both, Fits, both-zero, scaled-fits, picked-if}
+use Rattle.track.specs.Running.{picked-if}
 
 unfoldable pub trackSum : ℕ → Chunk → List Float → ℕ → ℕ → Frame
 trackSum d c samples line i = withSounds c samples line i (overSubTracks c line (λ below x. added x (trackFrame d c samples below i)) zeroFrame)
@@ -47,11 +46,3 @@ pub sends-hold : (P : Frame → Type 0) (d : ℕ) (c : Chunk) (samples : List Fl
 unfolding sendsWith
 sends-hold P d c samples line s i track a p q =
     picked-if P (track .advancing) (withRoutes c line s (trackFrame (suc d) c samples line i) (overSubTracks c line (λ below x. withTrackSends d c samples below s i x) a)) a (λ t. p) q
-
--- a track's frame fits f32: it is scaled, or zeros
-pub track-fits : (d : ℕ) (c : Chunk) (samples : List Float) (j i : ℕ) → Both Fits (trackFrame d c samples (suc j) i)
-track-fits zero c samples j i = unfold trackFrame in both-zero Fits (posZero-fits binary32)
-track-fits (suc d) c samples j i =
-    subst (Both Fits) (sym (track-parts d c samples j i))
-    (track-holds (Both Fits) (trackLine c j) (c .frames) i (trackSum d c samples (suc j) i)
-    (scaled-fits (trackSum d c samples (suc j) i) (trackAmplitude (trackLine c j) (amountAt i (c .frames)))) (both-zero Fits (posZero-fits binary32)))

@@ -20,7 +20,8 @@ use Rattle.track.specs.Chunk.{trackLine, routeLine}
 use Rattle.track.specs.Sub.{overSubTracks, trackFrame, withRoutes, withTrackSends}
 use Rattle.noninterference.specs.Lines.{newLine, keptLine, keptLine-suc, open-suc, same-test, apart}
 use Rattle.noninterference.specs.Chunk.{keptRoute, Muted, Without}
-use Rattle.noninterference.specs.Frames.{scaled-fits, picked-if, Alike, alike-scaled, Same, same-added, at-equal, turn-kept, turn-removed}
+use Rattle.track.specs.Running.{scaled-fits, picked-if}
+use Rattle.noninterference.specs.Frames.{Alike, alike-scaled, Same, same-added, at-equal, turn-kept, turn-removed}
 use Rattle.noninterference.specs.Parts.{sendsWith, send-parts, sends-hold}
 use Rattle.noninterference.specs.Below.{below-still, below-same, below-none}
 use Rattle.noninterference.specs.Tracks.{track-alike}

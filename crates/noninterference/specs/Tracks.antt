@@ -22,8 +22,9 @@ use Rattle.track.specs.Sound.{soundFrame, withSounds}
 use Rattle.track.specs.Sub.{overSubTracks, trackFrame}
 use Rattle.noninterference.specs.Lines.{newLine, openLine, open-suc}
 use Rattle.noninterference.specs.Chunk.{Without}
-use Rattle.noninterference.specs.Frames.{Both, Finite, both-zero, both-scaled, zeros, Alike, same-start, same-added, at-equal}
-use Rattle.noninterference.specs.Parts.{trackSum, trackWith, track-parts, track-holds, track-fits}
+use Rattle.track.specs.Running.{Both, both-zero, zeros, track-fits}
+use Rattle.noninterference.specs.Frames.{Finite, both-scaled, Alike, same-start, same-added, at-equal}
+use Rattle.noninterference.specs.Parts.{trackSum, trackWith, track-parts, track-holds}
 use Rattle.noninterference.specs.Bounds.{Size, level-within, sum-finite}
 use Rattle.noninterference.specs.Sounds.{sounds-same, sounds-none}
 use Rattle.noninterference.specs.Below.{below-same, below-none}
@@ -72,7 +73,7 @@ module _ {keep chosen quiet : ℕ → Bool} {c : Chunk} {samples : List Float} {
       → overSubTracks c line (λ below x. added x (trackFrame d c samples below i)) zeroFrame ≡ overSubTracks c' (newLine keep line) (λ below x. added x (trackFrame d c' samples' below i)) zeroFrame
   below-sum d h line t =
       below-same w line t (λ below x. added x (trackFrame d c samples below i)) (λ below x. added x (trackFrame d c' samples' below i))
-      (λ j l s x y r. same-added r (track-fits d c samples j i) (h j l s)) zeroFrame zeroFrame same-start .same
+      (λ j l s x y r. same-added r (track-fits d c samples (suc j) i) (h j l s)) zeroFrame zeroFrame same-start .same
 
   sum-same : (d : ℕ) → ((j : ℕ) → j < c .«track_count» → T (keep j) → TrackAlike d j) → (line : ℕ) → T (openLine keep chosen line) → trackSum d c samples line i ≡ trackSum d c' samples' (newLine keep line) i
   unfolding trackSum

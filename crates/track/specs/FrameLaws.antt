@@ -3,7 +3,7 @@
 use mathlib.Core.Path.{_≡_, refl, sym, ap, ap₂, _∙_, subst}
 use mathlib.Core.List.{List, [], _∷_}
 use Prim.Native.Nat.{ℕ, zero, suc, _+_, _-_, _*_, _≤_, _<_, suc-le-suc, zero-le}
-use native.Mathlib.Nat.{le-refl, le-of-suc-le-suc, not-suc-le-zero, not-le-of-lt, zero-lt-suc, add-sub-cancel-left, sub-zero}
+use native.Mathlib.Nat.{le-refl, le-of-suc-le-suc, not-suc-le-zero, not-le-of-lt, zero-lt-suc, add-sub-cancel-left}
 use native.Mathlib.Numerals.{add-one}
 use native.Mathlib.Omega.{arith}
 use mathlib.Core.Bool.{Bool, true, false, cond, _&&_}
@@ -239,9 +239,15 @@ module _ (first n : ℕ) (f : Step) (k : ℕ) (a : Frame) where
 pub placed-here : (first n : ℕ) (f : Step) (i : ℕ) (a : Frame) → i < n → placed first n f (first + i) a ≡ f i a
 placed-here first n f i a h = placed-in first n f (first + i) a (omega arith) (omega arith) ∙ ap (λ (k : ℕ). f k a) (add-sub-cancel-left first i)
 
--- a step placed on all of the frames
-pub placed-all : (f : Step) (n : ℕ) (l : List Float) → withFrames (placed 0 (n - 0) f) n l ≡ withFrames f n l
-placed-all f n l = withFrames-cong (placed 0 (n - 0) f) f n l (λ k p _ a. placed-in 0 (n - 0) f k a zero-le (omega arith) ∙ ap (λ (i : ℕ). f i a) (sub-zero k))
+-- a step that leaves the frames that are there
+pub withFrames-held : (f : Step) (n : ℕ) (l : List Float) → ((k : ℕ) → k < n → f k (frameAt l k) ≡ frameAt l k) → withFrames f n l ≡ l
+unfolding withFrames frameAt
+withFrames-held f zero l h = refl
+withFrames-held f (suc n) [] h = refl
+withFrames-held f (suc n) (x ∷ []) h = refl
+withFrames-held f (suc n) (x ∷ y ∷ l) h =
+    ap₂ (λ (a : Frame) (r : List Float). a .left ∷ a .right ∷ r) (h 0 (zero-lt-suc n))
+    (withFrames-held (λ j. f (suc j)) n l (λ k p. ap (f (suc k)) (sym (frame-skip x y l k)) ∙ h (suc k) (suc-le-suc p) ∙ frame-skip x y l k))
 
 -- ---- a buffer of zeros
 

@@ -19,3 +19,4 @@ pub mod SoundLaws
 pub mod SteadyLaws
 pub mod Owners
 pub mod OwnersLaws
+pub mod Running

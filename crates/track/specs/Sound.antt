@@ -19,7 +19,7 @@ soundFrame samples s i = cond (ltb i (s .left)) (frameAt samples (s .start + i))
 unfoldable pub addedSound : List Float → ChunkSound → ℕ → Frame → Frame
 addedSound samples s i a = added a (soundFrame samples s i)
 
--- the zeros that follow it, and those of a track that stands still
+-- the zeros that follow it
 abbrev pub addedZero : ℕ → Frame → Frame
 addedZero i a = added a zeroFrame
 

@@ -14,11 +14,12 @@ use Rattle.track.specs.declared.frame.Frame.{Frame}
 use Rattle.track.specs.declared.chunk.Chunk.{Chunk}
 use Rattle.track.specs.Frame.{none, withFrames, zeroFrame, added, scaled, frameAt, addedFrom, addedScaled, placed}
 use Rattle.track.specs.Chunk.{trackLine, routeLine, amountAt, trackAmplitude}
-use Rattle.track.specs.Sound.{addedZero, withSounds}
+use Rattle.track.specs.Sound.{withSounds}
 use Rattle.track.specs.Sub.{overSubTracks, trackFrame, withRoutes, withTrackSends, trackScaled, withTrack, onSends, sendFrames, withRoutesFrom, withSendsOf}
 use Rattle.track.specs.Picks.{picks-eq, leaves-eq}
-use Rattle.track.specs.FrameLaws.{Step, withFrames-at, withFrames-cong, withFrames-same, withFrames-further, withFrames-twice, placed-above, silent-at}
+use Rattle.track.specs.FrameLaws.{Step, withFrames-at, withFrames-cong, withFrames-same, withFrames-held, withFrames-further, withFrames-twice, placed-above, silent-at}
 use Rattle.track.specs.TurnLaws.{step-picked, step-left}
+use Rattle.track.specs.Running.{AllRunning, zeros, absorbed}
 use Rattle.track.specs.SendLaws.{SendStep, onSends-cong, onSends-same, onSends-twice, onSends-upto, onSends-downto, placed-send}
 
 -- ---- routes
@@ -154,12 +155,13 @@ module _ (depth d : ℕ) (c : Chunk) (samples : List Float) (line : ℕ) (deep :
       within i n m k p h e = omega arith
 
 module _ (depth d : ℕ) (c : Chunk) (samples : List Float) (line : ℕ) (l : List Float) (deep : depth ≡ suc d) where
-  pub track-stopped : trackLine c (line - 1) .advancing ≡ false → withFrames addedZero (c .frames) l ≡ withFrames (withTrack depth c samples line) (c .frames) l
+  pub track-stopped : AllRunning (c .frames) l → trackLine c (line - 1) .advancing ≡ false → l ≡ withFrames (withTrack depth c samples line) (c .frames) l
   unfolding withTrack trackFrame
-  track-stopped stops =
+  track-stopped run stops =
       let track = trackLine c (line - 1) in
-      withFrames-cong addedZero (withTrack (suc d) c samples line) (c .frames) l
-      (λ k p q x. ap (added x) (sym (cond-false (track .advancing) (scaled (withSounds c samples line k (subSum d c samples line k zeroFrame)) (trackAmplitude track (amountAt k (c .frames)))) zeroFrame stops)))
+      sym (withFrames-held (withTrack (suc d) c samples line) (c .frames) l
+      (λ k p. ap (added (frameAt l k)) (cond-false (track .advancing) (scaled (withSounds c samples line k (subSum d c samples line k zeroFrame)) (trackAmplitude track (amountAt k (c .frames)))) zeroFrame stops)
+      ∙ absorbed (run k p) zeros))
       ∙ ap (λ (z : ℕ). withFrames (withTrack z c samples line) (c .frames) l) (sym deep)
 
   pub sends-mixed : (out : List Float) {under last : List Float} → trackLine c (line - 1) .advancing ≡ true → HasTrack depth c samples line out → under ≡ withFrames (subSends d c samples line) sendFrames l → last ≡ withFrames (withRoutesFrom c line out) sendFrames under → last ≡ withFrames (withSendsOf depth c samples line) sendFrames l
@@ -187,10 +189,10 @@ module _ (depth d : ℕ) (c : Chunk) (samples : List Float) (line : ℕ) (l : Li
       ∙ ap (λ (y : ℕ). withFrames (withSendsOf y c samples line) sendFrames l) (sym deep)
 
 module _ (depth : ℕ) (c : Chunk) (samples : List Float) (line : ℕ) (l : List Float) (flat : depth ≡ 0) where
-  pub track-none : withFrames addedZero (c .frames) l ≡ withFrames (withTrack depth c samples line) (c .frames) l
+  pub track-none : AllRunning (c .frames) l → l ≡ withFrames (withTrack depth c samples line) (c .frames) l
   unfolding withTrack trackFrame
-  track-none =
-      withFrames-cong addedZero (withTrack 0 c samples line) (c .frames) l (λ k p q x. refl)
+  track-none run =
+      sym (withFrames-held (withTrack 0 c samples line) (c .frames) l (λ k p. absorbed (run k p) zeros))
       ∙ ap (λ (z : ℕ). withFrames (withTrack z c samples line) (c .frames) l) (sym flat)
 
   pub sends-none : l ≡ withFrames (withSendsOf depth c samples line) sendFrames l

@@ -32,7 +32,7 @@ fn add_played(to: &mut [f32], samples: &[f32], sound: ChunkSound, frames: usize)
 }
 
 // Adds zeros from frame `first` on.
-pub fn add_silence(to: &mut [f32], first: usize, frames: usize)
+fn add_silence(to: &mut [f32], first: usize, frames: usize)
     requires { ⌜ 2 * frames ≤ length (now to) ⌝ }
     requires { ⌜ first ≤ frames ⌝ }
     ensures { λ _. ⌜ now (to .exit) ≡ withFrames (placed first (frames - first) addedZero) frames (now (to .entry)) ⌝ }

@@ -8,6 +8,7 @@ ghost use Rattle.track.specs.Frame.{withFrames};
 ghost use Rattle.track.specs.Chunk.{ChunkOk, isSteady, LevelInRange, IsParts};
 ghost use Rattle.track.specs.Flat.{chunkFrom};
 ghost use Rattle.track.specs.Owners.{subTrackLinks, soundLinks};
+ghost use Rattle.track.specs.Running.{AllRunning};
 ghost use Rattle.track.specs.Sub.{trackScaled, withTrack, withRoutesFrom, withSendsOf, sendFrames};
 use crate::chunk::ChunkTrack;
 use crate::flat::FRAMES;
@@ -19,7 +20,6 @@ use crate::frame::add_scaled;
 use crate::frame::frame_at;
 use crate::frame::put_frame;
 use crate::frame::scale;
-use crate::sound::add_silence;
 use crate::sound::add_sounds;
 use decibels::Amplitude;
 
@@ -140,7 +140,8 @@ fn add_routes(
 }
 
 // Adds the frames of track `line`, counted from 1, onto the sum `to`, and to the send tracks what it
-// and the tracks below it send. `depth` is how many levels of tracks are left.
+// and the tracks below it send. `depth` is how many levels of tracks are left. The sum began at +0.0:
+// it is never -0.0, so that a track which stands still need not add its zeros.
 pub fn process(
     places: &[usize; 389],
     values: &[f32; 210],
@@ -161,17 +162,16 @@ pub fn process(
     requires { ⌜ (1 ≤ line) × (line ≤ chunkFrom (now places) (now values) .«track_count») ⌝ }
     requires { ⌜ 2 * chunkFrom (now places) (now values) .frames ≤ length (now to) ⌝ }
     requires { ⌜ length (now sends) ≡ 2 * sendFrames ⌝ }
+    requires { ⌜ AllRunning (chunkFrom (now places) (now values) .frames) (now to) ⌝ }
     ensures frames { λ _. ⌜ now (to .exit) ≡ withFrames (withTrack depth (chunkFrom (now (places .entry)) (now (values .entry))) (now (samples .entry)) line) (chunkFrom (now (places .entry)) (now (values .entry)) .frames) (now (to .entry)) ⌝ }
     ensures sends { λ _. ⌜ now (sends .exit) ≡ withFrames (withSendsOf depth (chunkFrom (now (places .entry)) (now (values .entry))) (now (samples .entry)) line) sendFrames (now (sends .entry)) ⌝ }
 {
     let frames = places[FRAMES];
     let track = track_at(places, values, line - 1);
     if depth == 0 {
-        add_silence(to, 0, frames);
         return;
     }
     if !track.advancing {
-        add_silence(to, 0, frames);
         return;
     }
     let mut out = [0.0f32; 512];

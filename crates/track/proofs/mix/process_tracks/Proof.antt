@@ -16,6 +16,7 @@ use Rattle.track.specs.TurnLaws.{turn-length}
 use Rattle.track.specs.Owners.{subTrackLinks}
 use Rattle.track.specs.OwnersLaws.{Follows, follow-start, follow-less, follow-turn, follow-done}
 use Rattle.track.specs.SubLaws.{subStep, subSend, sub-taken, sub-left, send-taken, send-left, sub-done, send-done, subSum}
+use Rattle.track.specs.Running.{AllRunning, running-cleared, running-track}
 use Rattle.track.specs.MixLaws.{tracks-mixed, all-sends}
 use Rattle.track.proofs.mix.process_tracks.Statement.{statement}
 use Rattle.track.proofs.mix.process_tracks.Tie as tie
@@ -28,7 +29,7 @@ abbrev parent : Chunk → ℕ → ℕ
 parent c k = trackLine c k .parent
 
 abbrev Inv : Chunk → List Float → List Float → List Float → List Float → List Float → ℕ → Type 0
-Inv chunk samples out₀ sends₀ out sends j = (length out ≡ length out₀) × (length sends ≡ length sends₀) × Follows (subStep levels chunk samples 0) (chunk .frames) (chunk .«track_count») (parent chunk) 0 out₀ out j × Follows (subSend levels chunk samples 0) sendFrames (chunk .«track_count») (parent chunk) 0 sends₀ sends j
+Inv chunk samples out₀ sends₀ out sends j = (length out ≡ length out₀) × (length sends ≡ length sends₀) × Follows (subStep levels chunk samples 0) (chunk .frames) (chunk .«track_count») (parent chunk) 0 out₀ out j × Follows (subSend levels chunk samples 0) sendFrames (chunk .«track_count») (parent chunk) 0 sends₀ sends j × AllRunning (chunk .frames) out
 
 abbrev Inv-loop : tie.InvT-loop
 Inv-loop places values sub-tracks sounds parts table samples out₀ sends₀ frames j₀ out sends j = Inv (chunkFrom places values) samples out₀ sends₀ out sends j
@@ -61,6 +62,7 @@ loop-holds c =
       refl,
       follow-start (subStep levels chunk samples 0) (chunk .frames) (chunk .«track_count») (parent chunk) 0 _ (sub-left levels chunk samples 0) (omega arith) owned,
       follow-start (subSend levels chunk samples 0) sendFrames (chunk .«track_count») (parent chunk) 0 (args .sends .now) (send-left levels chunk samples 0) (omega arith) owned,
+      running-cleared (chunk .frames) (args .out .now) (start .pre .1 .1 .1 .1 .0) (c .before .before .before .clear .ensures),
     )
 
 -- src/mix.rt:59:9
@@ -72,7 +74,7 @@ process-requires c κs =
     let ok = start .pre .1 .0 in
     let inv = c .before .before .before .loop .inv in
     let cleared-length = kept cleared (chunk .frames) (args .out .now) (c .before .before .before .before .before .before .before .clear .ensures) in
-    (start .pre .0, (ok, (start .pre .1 .1 .0, (start .pre .1 .1 .1 .0, ((c .before .before .loop-test .taken, inv .2 .few), (omega (arith, inv .0, cleared-length, start .pre .1 .1 .1 .1 .0), inv .1 ∙ start .pre .1 .1 .1 .1 .1))))))
+    (start .pre .0, (ok, (start .pre .1 .1 .0, (start .pre .1 .1 .1 .0, ((c .before .before .loop-test .taken, inv .2 .few), (omega (arith, inv .0, cleared-length, start .pre .1 .1 .1 .1 .0), (inv .1 ∙ start .pre .1 .1 .1 .1 .1, inv .4)))))))
 
 -- src/mix.rt:72:24
 add-j : tie.Need-add-j Inv-loop μ-loop
@@ -120,11 +122,13 @@ loop-again c =
     let q = subSend levels chunk samples 0 in
     let out = l .before .before .before .before .clear .last .0 in
     let e = c .before .before .before .before .before .process .ensures .0 ∙ sub-taken levels chunk samples 0 j (l .loop .out) h (inv .2 .own h) in
+    let cleared-length = kept cleared (chunk .frames) (args .out .now) (l .before .before .before .before .clear .ensures) in
     let f = c .before .before .before .before .before .process .ensures .1 ∙ send-taken levels chunk samples 0 j (l .loop .sends) h (inv .3 .own h) in (
       turn-length g (chunk .frames) out (l .loop .out) (j - 1) (inv .0) e,
       turn-length q sendFrames (args .sends .now) (l .loop .sends) (j - 1) (inv .1) f,
       follow-turn g (chunk .frames) (chunk .«track_count») (parent chunk) 0 out j (l .loop .out) (sub-left levels chunk samples 0) room (omega arith) owned h (inv .2) e,
       follow-turn q sendFrames (chunk .«track_count») (parent chunk) 0 (args .sends .now) j (l .loop .sends) (send-left levels chunk samples 0) room (omega arith) owned h (inv .3) f,
+      running-track (chunk .frames) (l .loop .out) (omega (arith, inv .0, cleared-length, start .pre .1 .1 .1 .1 .0)) levels chunk samples j (inv .4) (c .before .before .before .before .before .process .ensures .0),
     )
 
 -- src/mix.rt:35:1

@@ -1,7 +1,7 @@
 use mathlib.Core.Path.{_≡_, refl, sym, ap, _∙_, subst}
 use mathlib.Core.Bool.{Bool, true, false, not}
 use mathlib.Core.List.{List}
-use Prim.Native.Nat.{suc, _-_, _≤_, zero-le}
+use Prim.Native.Nat.{suc, _-_, _≤_}
 use native.Mathlib.Omega.{arith}
 use lib.ListN.{length, replicate}
 use lib.Ieee.{Float, ofBits, ofInt}
@@ -12,11 +12,12 @@ use Rattle.track.specs.declared.chunk.Level.{Level}
 use Rattle.track.specs.Frame.{none, withFrames}
 use Rattle.track.specs.Chunk.{trackLine, LevelInRange}
 use Rattle.track.specs.Flat.{chunkFrom}
-use Rattle.track.specs.Sound.{addedZero, withSounds}
+use Rattle.track.specs.Sound.{withSounds}
 use Rattle.track.specs.Sub.{sendFrames, trackScaled}
-use Rattle.track.specs.FrameLaws.{kept, placed-all}
+use Rattle.track.specs.FrameLaws.{kept}
 use Rattle.track.specs.TurnLaws.{turn-length}
 use Rattle.track.specs.Owners.{subTrackLinks}
+use Rattle.track.specs.Running.{AllRunning, running-silent, running-track}
 use Rattle.track.specs.OwnersLaws.{Follows, follow-start, follow-less, follow-turn, follow-done}
 use Rattle.track.specs.SubLaws.{subStep, subSend, sub-taken, sub-left, send-taken, send-left, sub-done, send-done, track-added, track-mixed, track-stopped, track-none, sends-mixed, sends-stopped, sends-none}
 use Prim.Native.Nat.{ℕ, _<_}
@@ -27,7 +28,6 @@ use Rattle.track.proofs.sub.process.Kinds as process-kinds
 use Rattle.track.proofs.sub.+process.Lts-process as process-lts
 use Rattle.track.proofs.flat.track_at.Reads as track-at-reads
 use Rattle.track.proofs.frame.add_frames.Reads as add-frames-reads
-use Rattle.track.proofs.sound.add_silence.Reads as add-silence-reads
 use Rattle.track.proofs.sound.add_sounds.Reads as add-sounds-reads
 use Rattle.track.proofs.sub.add_routes.Reads as add-routes-reads
 use Rattle.track.proofs.sub.apply_volume.Reads as apply-volume-reads
@@ -50,7 +50,7 @@ abbrev parent : Chunk → ℕ → ℕ
 parent c k = trackLine c k .parent
 
 abbrev Inv : Chunk → List Float → ℕ → ℕ → List Float → List Float → List Float → List Float → ℕ → Type 0
-Inv chunk samples line d out₀ sends₀ out sends j = (length out ≡ 512) × (length sends ≡ length sends₀) × Follows (subStep d chunk samples line) (chunk .frames) (chunk .«track_count») (parent chunk) line out₀ out j × Follows (subSend d chunk samples line) sendFrames (chunk .«track_count») (parent chunk) line sends₀ sends j
+Inv chunk samples line d out₀ sends₀ out sends j = (length out ≡ 512) × (length sends ≡ length sends₀) × Follows (subStep d chunk samples line) (chunk .frames) (chunk .«track_count») (parent chunk) line out₀ out j × Follows (subSend d chunk samples line) sendFrames (chunk .«track_count») (parent chunk) line sends₀ sends j × AllRunning (chunk .frames) out
 
 abbrev μ-process : Measures 9 process-kinds.ps ℕ
 μ-process κs a = a .1 .1 .1 .1 .1 .1 .1 .1 .0
@@ -68,12 +68,10 @@ process-Inv-loop places values sub-tracks sounds parts table samples line depth 
 abbrev process-μ-loop : process-lts.MeasureT-loop
 process-μ-loop places values sub-tracks sounds parts table samples line depth to sends₀ frames track out₀ j₀ sends out j = j
 
--- src/sub.rt:167:18
+-- src/sub.rt:169:18
 process-element-copy-out-frames : (t : ℕ) → process-lts.Need-element-copy-out-frames (
   track-at-reads.Asked,
   track-at-reads.Learnt,
-  add-silence-reads.Asked,
-  add-silence-reads.Learnt,
   process-below t,
   process.Post,
   add-sounds-reads.Asked,
@@ -87,12 +85,10 @@ process-element-copy-out-frames : (t : ℕ) → process-lts.Need-element-copy-ou
 ) (process-at t) process.Post process-Inv-loop process-μ-loop
 process-element-copy-out-frames t c = search needs
 
--- src/sub.rt:168:42
+-- src/sub.rt:170:42
 process-sub-track-at : (t : ℕ) → process-lts.Need-sub-track-at (
   track-at-reads.Asked,
   track-at-reads.Learnt,
-  add-silence-reads.Asked,
-  add-silence-reads.Learnt,
   process-below t,
   process.Post,
   add-sounds-reads.Asked,
@@ -106,12 +102,10 @@ process-sub-track-at : (t : ℕ) → process-lts.Need-sub-track-at (
 ) (process-at t) process.Post process-Inv-loop process-μ-loop
 process-sub-track-at t c = c .before .before .before .before .pre .1 .1 .1 .1 .1 .0 .0
 
--- src/sub.rt:168:9
+-- src/sub.rt:170:9
 process-track-at-requires : (t : ℕ) → process-lts.Need-track-at-requires (
   track-at-reads.Asked,
   track-at-reads.Learnt,
-  add-silence-reads.Asked,
-  add-silence-reads.Learnt,
   process-below t,
   process.Post,
   add-sounds-reads.Asked,
@@ -127,50 +121,10 @@ process-track-at-requires t c κs =
     let start = c .before .before .before .before in
     omega (arith, start .pre .1 .1 .1 .1 .1 .0 .0, start .pre .1 .1 .1 .1 .1 .0 .1, start .pre .1 .1 .0 .tracks)
 
--- src/sub.rt:170:9
-process-add-silence-requires : (t : ℕ) → process-lts.Need-add-silence-requires (
-  track-at-reads.Asked,
-  track-at-reads.Learnt,
-  add-silence-reads.Asked,
-  add-silence-reads.Learnt,
-  process-below t,
-  process.Post,
-  add-sounds-reads.Asked,
-  add-sounds-reads.Learnt,
-  apply-volume-reads.Asked,
-  apply-volume-reads.Learnt,
-  add-routes-reads.Asked,
-  add-routes-reads.Learnt,
-  add-frames-reads.Asked,
-  add-frames-reads.Learnt,
-) (process-at t) process.Post process-Inv-loop process-μ-loop
-process-add-silence-requires t c κs = (c .before .before .before .before .before .before .before .pre .1 .1 .1 .1 .1 .1 .0, zero-le)
-
--- src/sub.rt:171:9
-process-same-length : (t : ℕ) → process-lts.Need-same-length (
-  track-at-reads.Asked,
-  track-at-reads.Learnt,
-  add-silence-reads.Asked,
-  add-silence-reads.Learnt,
-  process-below t,
-  process.Post,
-  add-sounds-reads.Asked,
-  add-sounds-reads.Learnt,
-  apply-volume-reads.Asked,
-  apply-volume-reads.Learnt,
-  add-routes-reads.Asked,
-  add-routes-reads.Learnt,
-  add-frames-reads.Asked,
-  add-frames-reads.Learnt,
-) (process-at t) process.Post process-Inv-loop process-μ-loop
-process-same-length t c = search needs
-
--- src/sub.rt:171:9
+-- src/sub.rt:172:9
 process-returns : (t : ℕ) → process-lts.Need-returns (
   track-at-reads.Asked,
   track-at-reads.Learnt,
-  add-silence-reads.Asked,
-  add-silence-reads.Learnt,
   process-below t,
   process.Post,
   add-sounds-reads.Asked,
@@ -183,57 +137,17 @@ process-returns : (t : ℕ) → process-lts.Need-returns (
   add-frames-reads.Learnt,
 ) (process-at t) process.Post process-Inv-loop process-μ-loop
 process-returns t c =
-    let start = c .before .before .before .before .before .before .before .before .before .before in
+    let start = c .before .before .before .before .before .before in
     let args = start .args in
     let chunk = chunkFrom (args .places .now) (args .values .now) in
     let samples = args .samples .now in
-    let none = c .before .before .before .before .if1 .taken in
-    (c .before .before .add-silence .ensures ∙ placed-all addedZero (chunk .frames) (args .to .now) ∙ track-none (args .depth) chunk samples (args .line) (args .to .now) none, sends-none (args .depth) chunk samples (args .line) (args .sends .now) none)
-
--- src/sub.rt:174:9
-process-add-silence-requires-2 : (t : ℕ) → process-lts.Need-add-silence-requires-2 (
-  track-at-reads.Asked,
-  track-at-reads.Learnt,
-  add-silence-reads.Asked,
-  add-silence-reads.Learnt,
-  process-below t,
-  process.Post,
-  add-sounds-reads.Asked,
-  add-sounds-reads.Learnt,
-  apply-volume-reads.Asked,
-  apply-volume-reads.Learnt,
-  add-routes-reads.Asked,
-  add-routes-reads.Learnt,
-  add-frames-reads.Asked,
-  add-frames-reads.Learnt,
-) (process-at t) process.Post process-Inv-loop process-μ-loop
-process-add-silence-requires-2 t c κs = (c .before .before .before .before .before .before .before .before .before .pre .1 .1 .1 .1 .1 .1 .0, zero-le)
-
--- src/sub.rt:175:9
-process-same-length-2 : (t : ℕ) → process-lts.Need-same-length-2 (
-  track-at-reads.Asked,
-  track-at-reads.Learnt,
-  add-silence-reads.Asked,
-  add-silence-reads.Learnt,
-  process-below t,
-  process.Post,
-  add-sounds-reads.Asked,
-  add-sounds-reads.Learnt,
-  apply-volume-reads.Asked,
-  apply-volume-reads.Learnt,
-  add-routes-reads.Asked,
-  add-routes-reads.Learnt,
-  add-frames-reads.Asked,
-  add-frames-reads.Learnt,
-) (process-at t) process.Post process-Inv-loop process-μ-loop
-process-same-length-2 t c = search needs
+    let none = c .if1 .taken in
+    (track-none (args .depth) chunk samples (args .line) (args .to .now) none (start .pre .1 .1 .1 .1 .1 .1 .1 .1), sends-none (args .depth) chunk samples (args .line) (args .sends .now) none)
 
 -- src/sub.rt:175:9
 process-returns-2 : (t : ℕ) → process-lts.Need-returns-2 (
   track-at-reads.Asked,
   track-at-reads.Learnt,
-  add-silence-reads.Asked,
-  add-silence-reads.Learnt,
   process-below t,
   process.Post,
   add-sounds-reads.Asked,
@@ -246,20 +160,18 @@ process-returns-2 : (t : ℕ) → process-lts.Need-returns-2 (
   add-frames-reads.Learnt,
 ) (process-at t) process.Post process-Inv-loop process-μ-loop
 process-returns-2 t c =
-    let start = c .before .before .before .before .before .before .before .before .before .before .before .before in
+    let start = c .before .before .before .before .before .before .before .before in
     let args = start .args in
     let chunk = chunkFrom (args .places .now) (args .values .now) in
     let samples = args .samples .now in
-    let deep : args .depth ≡ suc (args .depth - 1) = omega (arith, c .before .before .before .before .before .before .if1 .left) in
-    let stops = ap (λ (t : ChunkTrack). t .advancing) (sym (c .before .before .before .before .before .before .before .track-at .ensures)) ∙ not-true _ (c .before .before .before .before .if2 .taken) in
-    (c .before .before .add-silence2 .ensures ∙ placed-all addedZero (chunk .frames) (args .to .now) ∙ track-stopped (args .depth) (args .depth - 1) chunk samples (args .line) (args .to .now) deep stops, sends-stopped (args .depth) (args .depth - 1) chunk samples (args .line) (args .sends .now) deep stops)
+    let deep : args .depth ≡ suc (args .depth - 1) = omega (arith, c .before .before .if1 .left) in
+    let stops = ap (λ (t : ChunkTrack). t .advancing) (sym (c .before .before .before .track-at .ensures)) ∙ not-true _ (c .if2 .taken) in
+    (track-stopped (args .depth) (args .depth - 1) chunk samples (args .line) (args .to .now) deep (start .pre .1 .1 .1 .1 .1 .1 .1 .1) stops, sends-stopped (args .depth) (args .depth - 1) chunk samples (args .line) (args .sends .now) deep stops)
 
 -- src/sub.rt:178:17
 process-mul-j : (t : ℕ) → process-lts.Need-mul-j (
   track-at-reads.Asked,
   track-at-reads.Learnt,
-  add-silence-reads.Asked,
-  add-silence-reads.Learnt,
   process-below t,
   process.Post,
   add-sounds-reads.Asked,
@@ -277,8 +189,6 @@ process-mul-j t c = search needs
 process-element-copy-out-j : (t : ℕ) → process-lts.Need-element-copy-out-j (
   track-at-reads.Asked,
   track-at-reads.Learnt,
-  add-silence-reads.Asked,
-  add-silence-reads.Learnt,
   process-below t,
   process.Post,
   add-sounds-reads.Asked,
@@ -296,8 +206,6 @@ process-element-copy-out-j t c = search needs
 process-loop-holds : (t : ℕ) → process-lts.Need-loop-holds (
   track-at-reads.Asked,
   track-at-reads.Learnt,
-  add-silence-reads.Asked,
-  add-silence-reads.Learnt,
   process-below t,
   process.Post,
   add-sounds-reads.Asked,
@@ -309,7 +217,7 @@ process-loop-holds : (t : ℕ) → process-lts.Need-loop-holds (
   add-frames-reads.Asked,
   add-frames-reads.Learnt,
 ) (process-at t) process.Post process-Inv-loop process-μ-loop
-unfolding subTrackLinks
+unfolding subTrackLinks ofBits ofInt
 process-loop-holds t c =
     let start = c .before .before .before .before .before .before .before .before .before in
     let args = start .args in
@@ -323,14 +231,13 @@ process-loop-holds t c =
       refl,
       follow-start (subStep d chunk samples line) (chunk .frames) (chunk .«track_count») (parent chunk) line _ (sub-left d chunk samples line) few owned,
       follow-start (subSend d chunk samples line) sendFrames (chunk .«track_count») (parent chunk) line (args .sends .now) (send-left d chunk samples line) few owned,
+      running-silent 512 (chunk .frames) (omega (arith, start .pre .1 .1 .0 .short)),
     )
 
 -- src/sub.rt:189:13
 process-sub-process : (t : ℕ) → process-lts.Need-sub-process (
   track-at-reads.Asked,
   track-at-reads.Learnt,
-  add-silence-reads.Asked,
-  add-silence-reads.Learnt,
   process-below t,
   process.Post,
   add-sounds-reads.Asked,
@@ -348,8 +255,6 @@ process-sub-process t c = omega (arith, c .before .before .before .before .befor
 process-slice-aggregate-process : (t : ℕ) → process-lts.Need-slice-aggregate-process (
   track-at-reads.Asked,
   track-at-reads.Learnt,
-  add-silence-reads.Asked,
-  add-silence-reads.Learnt,
   process-below t,
   process.Post,
   add-sounds-reads.Asked,
@@ -367,8 +272,6 @@ process-slice-aggregate-process t c = search needs
 process-process-requires : (t : ℕ) → process-lts.Need-process-requires (
   track-at-reads.Asked,
   track-at-reads.Learnt,
-  add-silence-reads.Asked,
-  add-silence-reads.Learnt,
   process-below t,
   process.Post,
   add-sounds-reads.Asked,
@@ -384,14 +287,12 @@ process-process-requires t c κs =
     let start = c .before .before .before .before .before .before .before .before .before .before .before .before .before in
     let ok = start .pre .1 .1 .0 in
     let inv = c .before .before .before .loop .inv in
-    (omega (arith, start .pre .0, c .before .before .before .before .before .before .before .if1 .left), (start .pre .1 .0, (ok, (start .pre .1 .1 .1 .0, (start .pre .1 .1 .1 .1 .0, ((c .before .before .loop-test .taken, inv .2 .few), (omega (arith, ok .short, inv .0), inv .1 ∙ start .pre .1 .1 .1 .1 .1 .1 .1)))))))
+    (omega (arith, start .pre .0, c .before .before .before .before .before .before .before .if1 .left), (start .pre .1 .0, (ok, (start .pre .1 .1 .1 .0, (start .pre .1 .1 .1 .1 .0, ((c .before .before .loop-test .taken, inv .2 .few), (omega (arith, ok .short, inv .0), (inv .1 ∙ start .pre .1 .1 .1 .1 .1 .1 .1 .0, inv .4))))))))
 
 -- src/sub.rt:193:24
 process-add-j : (t : ℕ) → process-lts.Need-add-j (
   track-at-reads.Asked,
   track-at-reads.Learnt,
-  add-silence-reads.Asked,
-  add-silence-reads.Learnt,
   process-below t,
   process.Post,
   add-sounds-reads.Asked,
@@ -409,8 +310,6 @@ process-add-j t c = search (needs, c .before .before .before .before .before .be
 process-mul-j-2 : (t : ℕ) → process-lts.Need-mul-j-2 (
   track-at-reads.Asked,
   track-at-reads.Learnt,
-  add-silence-reads.Asked,
-  add-silence-reads.Learnt,
   process-below t,
   process.Post,
   add-sounds-reads.Asked,
@@ -428,8 +327,6 @@ process-mul-j-2 t c = search (needs, c .before .before .before .before .before .
 process-element-copy-out-j-2 : (t : ℕ) → process-lts.Need-element-copy-out-j-2 (
   track-at-reads.Asked,
   track-at-reads.Learnt,
-  add-silence-reads.Asked,
-  add-silence-reads.Learnt,
   process-below t,
   process.Post,
   add-sounds-reads.Asked,
@@ -447,8 +344,6 @@ process-element-copy-out-j-2 t c = omega (arith, c .before .before .before .befo
 process-loop-less : (t : ℕ) → process-lts.Need-loop-less (
   track-at-reads.Asked,
   track-at-reads.Learnt,
-  add-silence-reads.Asked,
-  add-silence-reads.Learnt,
   process-below t,
   process.Post,
   add-sounds-reads.Asked,
@@ -481,8 +376,6 @@ process-loop-less t c =
 process-loop-again : (t : ℕ) → process-lts.Need-loop-again (
   track-at-reads.Asked,
   track-at-reads.Learnt,
-  add-silence-reads.Asked,
-  add-silence-reads.Learnt,
   process-below t,
   process.Post,
   add-sounds-reads.Asked,
@@ -517,14 +410,13 @@ process-loop-again t c =
       turn-length q sendFrames (args .sends .now) (l .loop .sends) (j - 1) (inv .1) f,
       follow-turn g (chunk .frames) (chunk .«track_count») (parent chunk) line _ j (l .loop .out) (sub-left d chunk samples line) room few owned h (inv .2) e,
       follow-turn q sendFrames (chunk .«track_count») (parent chunk) line (args .sends .now) j (l .loop .sends) (send-left d chunk samples line) room few owned h (inv .3) f,
+      running-track (chunk .frames) (l .loop .out) (omega (arith, inv .0, start .pre .1 .1 .0 .short)) d chunk samples j (inv .4) (c .before .before .before .before .process .ensures .0),
     )
 
 -- src/sub.rt:195:16
 process-slice-aggregate-add-sounds : (t : ℕ) → process-lts.Need-slice-aggregate-add-sounds (
   track-at-reads.Asked,
   track-at-reads.Learnt,
-  add-silence-reads.Asked,
-  add-silence-reads.Learnt,
   process-below t,
   process.Post,
   add-sounds-reads.Asked,
@@ -542,8 +434,6 @@ process-slice-aggregate-add-sounds t c = search needs
 process-add-sounds-requires : (t : ℕ) → process-lts.Need-add-sounds-requires (
   track-at-reads.Asked,
   track-at-reads.Learnt,
-  add-silence-reads.Asked,
-  add-silence-reads.Learnt,
   process-below t,
   process.Post,
   add-sounds-reads.Asked,
@@ -564,8 +454,6 @@ process-add-sounds-requires t c κs =
 process-slice-aggregate-apply-volume : (t : ℕ) → process-lts.Need-slice-aggregate-apply-volume (
   track-at-reads.Asked,
   track-at-reads.Learnt,
-  add-silence-reads.Asked,
-  add-silence-reads.Learnt,
   process-below t,
   process.Post,
   add-sounds-reads.Asked,
@@ -583,8 +471,6 @@ process-slice-aggregate-apply-volume t c = search needs
 process-apply-volume-requires : (t : ℕ) → process-lts.Need-apply-volume-requires (
   track-at-reads.Asked,
   track-at-reads.Learnt,
-  add-silence-reads.Asked,
-  add-silence-reads.Learnt,
   process-below t,
   process.Post,
   add-sounds-reads.Asked,
@@ -612,8 +498,6 @@ process-apply-volume-requires t c κs =
 process-slice-aggregate-add-routes : (t : ℕ) → process-lts.Need-slice-aggregate-add-routes (
   track-at-reads.Asked,
   track-at-reads.Learnt,
-  add-silence-reads.Asked,
-  add-silence-reads.Learnt,
   process-below t,
   process.Post,
   add-sounds-reads.Asked,
@@ -631,8 +515,6 @@ process-slice-aggregate-add-routes t c = search needs
 process-add-routes-requires : (t : ℕ) → process-lts.Need-add-routes-requires (
   track-at-reads.Asked,
   track-at-reads.Learnt,
-  add-silence-reads.Asked,
-  add-silence-reads.Learnt,
   process-below t,
   process.Post,
   add-sounds-reads.Asked,
@@ -652,14 +534,12 @@ process-add-routes-requires t c κs =
     let l = c .before .before .before .before .before .before .before .before .before in
     let heard-length = kept (withSounds chunk samples (args .line)) (chunk .frames) (l .loop .out) (c .before .before .before .before .before .before .add-sounds .ensures) in
     let scaled-length = kept (trackScaled (c .before .before .before .before .before .before .before .before .before .before .before .before .before .before .track-at .result) (chunk .frames)) (chunk .frames) (c .before .before .before .before .before .before .add-sounds .last .0) (c .before .before .before .apply-volume .ensures) in
-    (start .pre .1 .1 .0, (omega (arith, heard-length, scaled-length, l .loop .inv .0, start .pre .1 .1 .0 .short), l .loop .inv .1 ∙ start .pre .1 .1 .1 .1 .1 .1 .1))
+    (start .pre .1 .1 .0, (omega (arith, heard-length, scaled-length, l .loop .inv .0, start .pre .1 .1 .0 .short), l .loop .inv .1 ∙ start .pre .1 .1 .1 .1 .1 .1 .1 .0))
 
 -- src/sub.rt:198:20
 process-slice-aggregate-add-frames : (t : ℕ) → process-lts.Need-slice-aggregate-add-frames (
   track-at-reads.Asked,
   track-at-reads.Learnt,
-  add-silence-reads.Asked,
-  add-silence-reads.Learnt,
   process-below t,
   process.Post,
   add-sounds-reads.Asked,
@@ -677,8 +557,6 @@ process-slice-aggregate-add-frames t c = search needs
 process-add-frames-requires : (t : ℕ) → process-lts.Need-add-frames-requires (
   track-at-reads.Asked,
   track-at-reads.Learnt,
-  add-silence-reads.Asked,
-  add-silence-reads.Learnt,
   process-below t,
   process.Post,
   add-sounds-reads.Asked,
@@ -700,12 +578,10 @@ process-add-frames-requires t c κs =
     let scaled-length = kept (trackScaled (c .before .before .before .before .before .before .before .before .before .before .before .before .before .before .before .before .before .before .before .track-at .result) (chunk .frames)) (chunk .frames) (c .before .before .before .before .before .before .before .before .before .before .before .add-sounds .last .0) (c .before .before .before .before .before .before .before .before .apply-volume .ensures) in
     (start .pre .1 .1 .1 .1 .1 .1 .0, omega (arith, heard-length, scaled-length, l .loop .inv .0, start .pre .1 .1 .0 .short))
 
--- src/sub.rt:144:1
-process-same-length-3 : (t : ℕ) → process-lts.Need-same-length-3 (
+-- src/sub.rt:145:1
+process-same-length : (t : ℕ) → process-lts.Need-same-length (
   track-at-reads.Asked,
   track-at-reads.Learnt,
-  add-silence-reads.Asked,
-  add-silence-reads.Learnt,
   process-below t,
   process.Post,
   add-sounds-reads.Asked,
@@ -717,14 +593,12 @@ process-same-length-3 : (t : ℕ) → process-lts.Need-same-length-3 (
   add-frames-reads.Asked,
   add-frames-reads.Learnt,
 ) (process-at t) process.Post process-Inv-loop process-μ-loop
-process-same-length-3 t c = search needs
+process-same-length t c = search needs
 
--- src/sub.rt:144:1
-process-same-length-4 : (t : ℕ) → process-lts.Need-same-length-4 (
+-- src/sub.rt:145:1
+process-same-length-2 : (t : ℕ) → process-lts.Need-same-length-2 (
   track-at-reads.Asked,
   track-at-reads.Learnt,
-  add-silence-reads.Asked,
-  add-silence-reads.Learnt,
   process-below t,
   process.Post,
   add-sounds-reads.Asked,
@@ -736,14 +610,12 @@ process-same-length-4 : (t : ℕ) → process-lts.Need-same-length-4 (
   add-frames-reads.Asked,
   add-frames-reads.Learnt,
 ) (process-at t) process.Post process-Inv-loop process-μ-loop
-process-same-length-4 t c = search needs
+process-same-length-2 t c = search needs
 
--- src/sub.rt:144:1
+-- src/sub.rt:145:1
 process-returns-3 : (t : ℕ) → process-lts.Need-returns-3 (
   track-at-reads.Asked,
   track-at-reads.Learnt,
-  add-silence-reads.Asked,
-  add-silence-reads.Learnt,
   process-below t,
   process.Post,
   add-sounds-reads.Asked,
@@ -781,8 +653,6 @@ pub +process-spec : {M : Type 1} → statement M
 +process-spec = close μ-process λ t. process-lts.spec (
   track-at-reads.Asked,
   track-at-reads.Learnt,
-  add-silence-reads.Asked,
-  add-silence-reads.Learnt,
   process-below t,
   process.Post,
   add-sounds-reads.Asked,
@@ -801,11 +671,7 @@ pub +process-spec : {M : Type 1} → statement M
     (process-element-copy-out-frames t)
     (process-sub-track-at t)
     (process-track-at-requires t)
-    (process-add-silence-requires t)
-    (process-same-length t)
     (process-returns t)
-    (process-add-silence-requires-2 t)
-    (process-same-length-2 t)
     (process-returns-2 t)
     (process-mul-j t)
     (process-element-copy-out-j t)
@@ -826,6 +692,6 @@ pub +process-spec : {M : Type 1} → statement M
     (process-add-routes-requires t)
     (process-slice-aggregate-add-frames t)
     (process-add-frames-requires t)
-    (process-same-length-3 t)
-    (process-same-length-4 t)
+    (process-same-length t)
+    (process-same-length-2 t)
     (process-returns-3 t)
