@@ -89,7 +89,8 @@ track-fits (suc d) c samples line i =
 
 -- ---- buffers
 
-inside : (k n m : ℕ) → k < n → 2 * n ≤ m → 2 * k + 1 < m
+-- frame k of n stands in a buffer of m places
+pub inside : (k n m : ℕ) → k < n → 2 * n ≤ m → 2 * k + 1 < m
 inside k n m p h = omega arith
 
 pub running-silent : (m n : ℕ) → 2 * n ≤ m → AllRunning n (replicate m none)

@@ -1,6 +1,6 @@
 -- What a track's loops over the tracks below it, and over its routes, come to. The loops' turns have names here: `subStep` and `subSend` for track j,
 -- counted from 0, `routeStep` for route r. Assumes nothing.
-use mathlib.Core.Path.{_≡_, refl, sym, ap, _∙_}
+use mathlib.Core.Path.{_≡_, refl, sym, ap, _∙_, subst}
 use mathlib.Core.Bool.{Bool, true, false, cond, _&&_}
 use mathlib.Core.List.{List}
 use Prim.Native.Nat.{ℕ, zero, suc, _+_, _-_, _*_, _≤_, _<_}
@@ -19,7 +19,7 @@ use Rattle.track.specs.Sub.{overSubTracks, trackFrame, withRoutes, withT
 use Rattle.track.specs.Picks.{picks-eq, leaves-eq}
 use Rattle.track.specs.FrameLaws.{Step, withFrames-at, withFrames-cong, withFrames-same, withFrames-held, withFrames-further, withFrames-twice, placed-above, silent-at}
 use Rattle.track.specs.TurnLaws.{step-picked, step-left}
-use Rattle.track.specs.Running.{AllRunning, zeros, absorbed}
+use Rattle.track.specs.Running.{AllRunning, zeros, absorbed, inside}
 use Rattle.track.specs.SendLaws.{SendStep, onSends-cong, onSends-same, onSends-twice, onSends-upto, onSends-downto, placed-send}
 
 -- ---- routes
@@ -146,13 +146,10 @@ module _ (depth d : ℕ) (c : Chunk) (samples : List Float) (line : ℕ) (deep :
       (e
       ∙ ap (withFrames v n) (b ∙ ap (withFrames s n) a ∙ withFrames-twice u s n (replicate m none))
       ∙ withFrames-twice (λ k x. s k (u k x)) v n (replicate m none))
-      ∙ withFrames-at (λ k x. v k (s k (u k x))) n (replicate m none) i p (within i n m (length (replicate m none)) p w (length-replicate m none))
-      ∙ ap (λ (f : Frame). v i (s i (u i f))) (silent-at m i (within i n m m p w refl))
+      ∙ withFrames-at (λ k x. v k (s k (u k x))) n (replicate m none) i p (subst (λ (k : ℕ). 2 * i + 1 < k) (sym (length-replicate m none)) (inside i n m p w))
+      ∙ ap (λ (f : Frame). v i (s i (u i f))) (silent-at m i (inside i n m p w))
       ∙ sym (cond-true (track .advancing) (v i (s i (u i zeroFrame))) zeroFrame moves)
       ∙ ap (λ (z : ℕ). trackFrame z c samples line i) (sym deep)
-    where
-      within : (i n m k : ℕ) → i < n → 2 * n ≤ m → k ≡ m → 2 * i + 1 < k
-      within i n m k p h e = omega arith
 
 module _ (depth d : ℕ) (c : Chunk) (samples : List Float) (line : ℕ) (l : List Float) (deep : depth ≡ suc d) where
   pub track-stopped : AllRunning (c .frames) l → trackLine c (line - 1) .advancing ≡ false → l ≡ withFrames (withTrack depth c samples line) (c .frames) l
