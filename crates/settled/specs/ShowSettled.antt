@@ -1,8 +1,9 @@
 -- The claim over 01's rows on whole renders.
-use lib.Ieee.{add, sub, mul, div, lt, le, neg, ofInt, toBits}
+use lib.Ieee.{round, eq, ofBits, add, sub, mul, div, lt, le, neg, ofInt, toBits}
 use Rattle.laws.specs.Loop.{upto, downto, changed}
 use Rattle.laws.specs.Pieces.{pieces, begun, putAt}
 use Rattle.laws.specs.Interpolate.{interpolate}
+use Rattle.laws.specs.Count.{counted}
 use Rattle.number.specs.Narrow.{narrowed, narrowedBits}
 use Rattle.number.specs.Nearest.{nearestQuotient}
 use Rattle.number.specs.Duration.{nanosFromSecs, secsFromMillis}
@@ -33,5 +34,5 @@ use Rattle.laws.specs.Rows.{Agree, agree-by-test}
 use Rattle.settled.specs.ShowRows.{zerosOf, zeroFrames, showRows}
 
 pub settled : Agree showRows
-unfolding showRows zerosOf zeroFrames upto downto changed pieces begun putAt interpolate narrowed narrowedBits nearestQuotient nanosFromSecs secsFromMillis admitted entryBelow restAbove lineAt curve amplitude clocksUpdated whenToStart ticksOf fractionOf timeOf takenWithin taken updated asTicksPerSecond allowedSpeed isImmediate delayLeft afterDelay atClockTime startTimeUpdate powiFrom powi inOutPowi easingApply tweenValue interpolated parameterNew interpolatedValue parameterSet isNow startedAt tweenStart withState tweenMove tweenUpdateIn tweenUpdate valueIn newRawValue withPrevious withNewValue parameterUpdate isAdvancing isStopped playbackNew interpolatedFadeVolume playbackPause resumed resumedAt playbackResume afterFade waitedUntil waitingUpdate stateUpdate playbackUpdate volumeOf kindOf clockTimeOf startTimeOf easingOf headOf clockOf trackOf sendOf routeOf soundOf orderOf noHead noClock noTrack noSend noRoute noSound noOrder filled sceneOf noScene speedNumber speedOf added scaled clamp clamped frameAt putFrame withFrames addedFrom addedScaled placed amountAt levelAmplitude trackAmplitude soundFrame addedSound withSounds overSubTracks trackFrame withRoutes withTrackSends trackScaled onSends withRoutesFrom withSendsOf sendFrame levelScaled withSend sendInput tracksFrame mixedFrame tracksSet withAllSends withSendTracks mixedSet trackNew trackMoved trackStill trackUpdate trackSet trackPause trackResume emptyTrack emptyParameter emptyClock clocksNew tracksNew sendsNew routesNew mixerNew liveAbove trackStep tracksUpdate updatedWhere routeUpdate routesUpdate sendsUpdate mixerUpdate kindNumber alike foundLater overridden counts tweenOf resumeTweenOf withTrack withSend-mixer withRoute withMain orderedBy resumedBy orderStep resumeStep mixerOrdered playedMore playedAfter playedOn soundsPlayed levelOf chunkTrack chunkRoute chunkSound emptyLevel emptyChunkTrack emptyChunkRoute emptyChunkSound chunkTracks chunkSends chunkRoutes chunkSounds chunkOf chunkCount chunkFrames inChunk chunkDone chunksDone blockDone mixerAt channelAt channelsOf chunkSamples blockSamples rendered add sub mul div lt le neg ofInt toBits
+unfolding showRows counted eq ofBits round zerosOf zeroFrames upto downto changed pieces begun putAt interpolate narrowed narrowedBits nearestQuotient nanosFromSecs secsFromMillis admitted entryBelow restAbove lineAt curve amplitude clocksUpdated whenToStart ticksOf fractionOf timeOf takenWithin taken updated asTicksPerSecond allowedSpeed isImmediate delayLeft afterDelay atClockTime startTimeUpdate powiFrom powi inOutPowi easingApply tweenValue interpolated parameterNew interpolatedValue parameterSet isNow startedAt tweenStart withState tweenMove tweenUpdateIn tweenUpdate valueIn newRawValue withPrevious withNewValue parameterUpdate isAdvancing isStopped playbackNew interpolatedFadeVolume playbackPause resumed resumedAt playbackResume afterFade waitedUntil waitingUpdate stateUpdate playbackUpdate volumeOf kindOf clockTimeOf startTimeOf easingOf headOf clockOf trackOf sendOf routeOf soundOf orderOf noHead noClock noTrack noSend noRoute noSound noOrder filled sceneOf noScene speedNumber speedOf added scaled clamp clamped frameAt putFrame withFrames addedFrom addedScaled placed amountAt levelAmplitude trackAmplitude soundFrame addedSound withSounds overSubTracks trackFrame withRoutes withTrackSends trackScaled onSends withRoutesFrom withSendsOf sendFrame levelScaled withSend sendInput tracksFrame mixedFrame tracksSet withAllSends withSendTracks mixedSet trackNew trackMoved trackStill trackUpdate trackSet trackPause trackResume emptyTrack emptyParameter emptyClock clocksNew tracksNew sendsNew routesNew mixerNew liveAbove trackStep tracksUpdate updatedWhere routeUpdate routesUpdate sendsUpdate mixerUpdate kindNumber alike foundLater overridden counts tweenOf resumeTweenOf withTrack withSend-mixer withRoute withMain orderedBy resumedBy orderStep resumeStep mixerOrdered playedMore playedAfter playedOn soundsPlayed levelOf chunkTrack chunkRoute chunkSound emptyLevel emptyChunkTrack emptyChunkRoute emptyChunkSound chunkTracks chunkSends chunkRoutes chunkSounds chunkOf chunkCount chunkFrames inChunk chunkDone chunksDone blockDone mixerAt channelAt channelsOf chunkSamples blockSamples rendered add sub mul div lt le neg ofInt toBits
 settled = agree-by-test showRows tt
