@@ -1,92 +1,90 @@
 #!/usr/bin/env python3
-"""Counts the lines of definitions that a reader must believe: all that the contracts of the public routines speak of, directly or through
-other definitions.
+"""What a reader must believe, and that specs/ holds nothing else.
 
-    tools/definitions.py [--list]
+    tools/definitions.py            counts the lines of definitions that the contracts of the routines for users speak of, directly or through
+                                    other definitions, by file
+    tools/definitions.py --list     the same with the definitions' names, the code's structs and enums, and the toolchain's names
+    tools/definitions.py --check    fails where specs/ has a name that neither a contract of any function nor a listed theorem speaks of
 
-It reads crates/*/specs. A definition is what stands between its signature and the next empty line, comments left out. Names of the toolchain's
-libraries (IEEE arithmetic, lists, numbers) are counted apart: they are the toolchain's to explain.
+A definition is what stands between its signature and the next empty line, comments left out.
 """
 import collections
-import pathlib
-import re
 import sys
 
+from antt import Graph, contract, functions
+import pathlib
+
 ROOT = pathlib.Path(__file__).resolve().parent.parent
-# what the contracts of `render`, `as_amplitude` and `render_text` cite, by file
-ROOTS = {
-    "room_desk/specs/Render.antt": ["outputOf", "AreF32"],
-    "scene_questions/specs/Questions.antt": ["answer"],
-    "scene_file/specs/Grammar.antt": ["tablesOf"],
-    "noninterference/specs/Removed.antt": ["Choice"],
-    "noninterference/specs/Alike.antt": ["alike"],
-    "decibels/specs/Answer.antt": ["answered", "amplitudeAnswer"],
-    "render_files/specs/Program.antt": ["printed"],
+# the routines for users
+ROUTINES = {
+    "decibels": ["Decibels::as_amplitude", "room_desk_amplitude"],
+    "room_desk": ["render", "room_desk_render"],
+    "render_files": ["render_text"],
 }
-SIGNATURE = re.compile(r"^(?:unfoldable |abbrev )?(?:pub )?(?:record )?([^\s:({]+)(?: \{[^}]*\})*(?: \([^)]*\))* :(?=\s)")
-WORD = re.compile(r"«[^»]*»|[^\s(){};,.«»]+")
+# the theorems that stand beside the contracts
+THEOREMS = [
+    ("rounding", "narrowed-nearest"),
+    ("rounding", "narrowed-infinite"),
+    ("rounding", "last-bit-even"),
+    ("rounding", "narrows-unique"),
+    ("room_desk", "never-eleven"),
+    ("render_files", "first-bytes"),
+    ("test_examples", "examples-agree"),
+    ("test_alike_pairs", "all-alike"),
+    ("test_alike_pairs", "no-control"),
+]
 
 
-def file_of(path):
-    """The file that a `use` path names, or None where it is no crate's definition."""
-    found = re.match(r"^Rattle·(\w+?)(?:·specs)?\.specs\.(.+)$", path)
-    return f"{found[1]}/specs/{found[2].replace('.', '/')}.antt" if found else None
+def spoken_of(graph):
+    """The definitions that every contract and listed theorem speaks of."""
+    roots = set()
+    for function in functions(ROOT):
+        roots |= contract(graph, function)
+    for crate, name in THEOREMS:
+        roots |= graph.theorem(crate, name)[1]
+    return graph.closure(roots)
 
 
-class Module:
-    def __init__(self, text):
-        self.names, self.blocks, self.libraries = {}, {}, {}
-        for path, names in re.findall(r"^(?:pub )?use ([^\s{]+?)\.\{([^}]*)\}", text, re.M):
-            for name in (n.split(" as ")[-1].strip() for n in names.split(",")):
-                (self.names if file_of(path) else self.libraries)[name] = file_of(path) or path
-        for block in re.split(r"\n\s*\n", text):
-            lines = [line for line in block.split("\n") if line.strip() and not line.lstrip().startswith("--")]
-            at = next((i for i, line in enumerate(lines) if SIGNATURE.match(line)), None)
-            if at is not None:
-                self.blocks[SIGNATURE.match(lines[at])[1]] = lines[at:]
+def check(graph):
+    reached = spoken_of(graph)
+    extra = sorted(key for key in graph.blocks if key[1] == "specs" and key not in reached)
+    for crate, kind, module, name in extra:
+        print(f"crates/{crate}/specs/{'/'.join(module)}.antt: no contract and no listed theorem speaks of {name}")
+    names = sum(1 for key in graph.blocks if key[1] == "specs")
+    print(f"{names} names in specs/, {len(extra)} that nothing speaks of")
+    return 1 if extra else 0
 
 
-def main():
-    modules, needed, declared, library = {}, collections.defaultdict(dict), set(), set()
-    waiting = [(file, name) for file, names in ROOTS.items() if (ROOT / "crates" / file).exists() for name in names]
-    while waiting:
-        file, name = waiting.pop()
-        if "/declared/" in file:
-            declared.add((file.split("/")[0], file.split("/declared/")[1].removesuffix(".antt")))
-            continue
-        if file not in modules:
-            modules[file] = Module((ROOT / "crates" / file).read_text())
-        module = modules[file]
-        if name in needed[file]:
-            continue
-        if name not in module.blocks:
-            if name in module.names:
-                waiting.append((module.names[name], name))
-            else:
-                sys.exit(f"{file}: no definition of {name}")
-            continue
-        needed[file][name] = module.blocks[name]
-        for word in set(WORD.findall("\n".join(module.blocks[name]))):
-            if word in module.blocks and word != name:
-                waiting.append((file, word))
-            elif word in module.names:
-                waiting.append((module.names[word], word))
-            elif word in module.libraries:
-                library.add((module.libraries[word], word))
+def count(graph, listed):
+    roots = set()
+    for function in functions(ROOT):
+        if function.name in ROUTINES.get(function.crate, []):
+            roots |= contract(graph, function)
+    needed = graph.closure(roots)
+    files, outside = collections.defaultdict(dict), set()
+    for key in needed:
+        block = graph.blocks[key]
+        files[block.file.path.relative_to(ROOT)][id(block)] = block
+        outside |= {other for other in graph.references(key, True) if len(other) == 2}
+    outside |= {other for other in roots if len(other) == 2}
+    declared = {other for other in outside if isinstance(other[0], tuple) and other[0][2][:1] == ("declared",)}
+    types = {(place[0], place[2][1:3]) for place, _ in declared}
     total = 0
-    for file in sorted(needed):
-        count = sum(len(lines) for lines in needed[file].values())
-        total += count
-        if needed[file]:
-            print(f"{count:5} {file}" + (": " + ", ".join(sorted(needed[file])) if "--list" in sys.argv else ""))
-    files = sum(1 for file in needed if needed[file])
-    print(f"{total:5} lines of {sum(map(len, needed.values()))} definitions in {files} files; {len(declared)} structs and enums of the code")
-    if "--list" in sys.argv:
-        for crate, name in sorted(declared):
-            print(f"  {crate}: {name}")
-        for path, word in sorted(library):
-            print(f"  {path}: {word}")
+    for path in sorted(files):
+        lines = sum(len(block.text()) for block in files[path].values())
+        total += lines
+        names = ": " + ", ".join(name for block in files[path].values() for name in block.names) if listed else ""
+        print(f"{lines:5} {path}{names}")
+    definitions = sum(len(blocks) for blocks in files.values())
+    print(f"{total:5} lines of {definitions} definitions in {len(files)} files; {len(types)} structs and enums of the code")
+    if listed:
+        for crate, module in sorted(types):
+            print(f"  {crate}: {'::'.join(module)}")
+        for path, name in sorted(other for other in outside if isinstance(other[0], str)):
+            print(f"  {path}: {name}")
+    return 0
 
 
 if __name__ == "__main__":
-    main()
+    whole = Graph(ROOT)
+    sys.exit(check(whole) if "--check" in sys.argv else count(whole, "--list" in sys.argv))
