@@ -15,38 +15,38 @@ use Rattle.scene.specs.declared.scene.SoundLine.{SoundLine}
 use Rattle.scene.specs.declared.scene.OrderLine.{OrderLine}
 use Rattle.scene.specs.declared.scene.OrderKind.the-variants.{MainVolume}
 
-abbrev pub absentClock : ClockLine
-absentClock = record { speed = SecondsPerTick nan; ticking = false }
+abbrev pub absentClockLine : ClockLine
+absentClockLine = record { speed = SecondsPerTick nan; ticking = false }
 
-abbrev pub absentTrack : TrackLine
-absentTrack = record { parent = 0; volume = record { 0 = nan } }
+abbrev pub absentTrackLine : TrackLine
+absentTrackLine = record { parent = 0; volume = record { 0 = nan } }
 
-abbrev pub absentSend : SendLine
-absentSend = record { volume = record { 0 = nan } }
+abbrev pub absentSendLine : SendLine
+absentSendLine = record { volume = record { 0 = nan } }
 
-abbrev pub absentRoute : RouteLine
-absentRoute = record { track = 0; send = 0; volume = record { 0 = nan } }
+abbrev pub absentRouteLine : RouteLine
+absentRouteLine = record { track = 0; send = 0; volume = record { 0 = nan } }
 
-abbrev pub absentSound : SoundLine
-absentSound = record { track = 0; first = 0; count = 0 }
+abbrev pub absentSoundLine : SoundLine
+absentSoundLine = record { track = 0; first = 0; count = 0 }
 
-abbrev pub absentOrder : OrderLine
-absentOrder = record { block = 0; kind = MainVolume; index = 0; target = record { 0 = nan }; «start_time» = Immediate; millis = 0; easing = Linear }
+abbrev pub absentOrderLine : OrderLine
+absentOrderLine = record { block = 0; kind = MainVolume; index = 0; target = record { 0 = nan }; «start_time» = Immediate; millis = 0; easing = Linear }
 
 abbrev pub clockLine : Scene → ℕ → ClockLine
-clockLine s i = getD (s .clocks) i absentClock
+clockLine s i = getD (s .clocks) i absentClockLine
 
 abbrev pub trackLine : Scene → ℕ → TrackLine
-trackLine s t = getD (s .tracks) t absentTrack
+trackLine s t = getD (s .tracks) t absentTrackLine
 
 abbrev pub sendLine : Scene → ℕ → SendLine
-sendLine s i = getD (s .sends) i absentSend
+sendLine s i = getD (s .sends) i absentSendLine
 
 abbrev pub routeLine : Scene → ℕ → RouteLine
-routeLine s r = getD (s .routes) r absentRoute
+routeLine s r = getD (s .routes) r absentRouteLine
 
 abbrev pub soundLine : Scene → ℕ → SoundLine
-soundLine s k = getD (s .sounds) k absentSound
+soundLine s k = getD (s .sounds) k absentSoundLine
 
 abbrev pub orderLine : Scene → ℕ → OrderLine
-orderLine s i = getD (s .orders) i absentOrder
+orderLine s i = getD (s .orders) i absentOrderLine

@@ -8,7 +8,7 @@ use lib.Ieee.{Float, nan, binary64, fits}
 use Rattle.laws.specs.DecibelRange.{TargetRange}
 use Rattle.laws.specs.FloatBounds.{Within}
 use Rattle.clock.specs.ClockSpeed.{asTicksPerSecond, allowedSpeed}
-use Rattle.tween.specs.StartTimeLaws.{ClockThere}
+use Rattle.tween.specs.StartTime.{ClockThere}
 use Rattle.scene.specs.declared.scene.Scene.{Scene}
 use Rattle.scene.specs.declared.scene.RouteLine.{RouteLine}
 use Rattle.scene.specs.declared.scene.OrderLine.{OrderLine}

@@ -1,14 +1,17 @@
--- kira's clock.rs.
+-- kira's clock.rs: a clock's state, and what its update asks.
 use mathlib.Core.Bool.{Bool, true, cond}
-use Prim.Native.Nat.{ℕ, zero, suc, _-_, _^_, _≤_}
+use Prim.Native.Nat.{ℕ, zero, suc, _-_, _^_, _≤_, _+_, _*_, _<_}
 use lib.Dec.{T}
-use lib.Ieee.{Float, binary64, add, sub, mul, le, lt, fits, toUnsigned}
+use lib.Ieee.{Float, binary64, add, sub, mul, le, lt, fits, toUnsigned, Format, low}
+use mathlib.Core.Path.{_≡_}
+use Rattle.laws.specs.Float.{whole}
 use Rattle.clock.specs.declared.clock_speed.ClockSpeed.{ClockSpeed}
 use Rattle.clock.specs.declared.clock_time.ClockTime.{ClockTime}
 use Rattle.clock.specs.declared.clock.ClockState.{ClockState}
 use Rattle.clock.specs.declared.clock.ClockState.the-variants.{NotStarted, Started}
 use Rattle.clock.specs.declared.clock.Clock.{Clock}
-use Rattle.clock.specs.ClockSpeed.{whole, asTicksPerSecond, allowedSpeed}
+use Rattle.clock.specs.ClockSpeed.{asTicksPerSecond, allowedSpeed}
+use Rattle.laws.specs.FloatOrder.{Number, plus, minus}
 
 abbrev pub newClock : ClockSpeed → Bool → Clock
 newClock speed ticking = record { ticking = ticking; speed = speed; state = NotStarted }
@@ -73,3 +76,25 @@ lastTick = 2 ^ 64 - 1002
 pub record CanMove (c : Clock) (dt : Float) : Type 0 where
   pub clock : ClockWithin lastTick c
   pub step : IsStep dt
+
+-- how many of the format's smallest values are one
+abbrev pub unit : Format → ℕ
+unit f = 2 ^ low f
+
+-- how many of the f64's smallest values a timer is, 2 ^ 1074 for one
+abbrev pub span : Float → ℕ
+span x = plus binary64 x
+
+abbrev pub oneSpan : ℕ
+oneSpan = unit binary64
+
+-- a timer: a number that is 0 or more, and below 2 ^ 53
+pub record Timer (x : Float) : Type 0 where
+  pub number : Number binary64 x
+  pub least : minus binary64 x ≡ 0
+  pub small : span x < 2 ^ 53 * oneSpan
+
+-- what the loop asks: ticks plus timer are below 2 ^ 64
+pub record CanTake (ticks : ℕ) (timer : Float) : Type 0 where
+  pub is-timer : Timer timer
+  pub room : ticks * oneSpan + span timer < 2 ^ 64 * oneSpan

@@ -1,14 +1,9 @@
 -- kira's clock/clock_speed.rs.
 use mathlib.Core.Bool.{Bool, _&&_}
-use Prim.Native.Nat.{ℕ}
-use lib.IntN.{pos}
-use lib.Ieee.{Float, binary64, div, le, ofInt}
+use lib.Ieee.{Float, binary64, div, le}
+use Rattle.laws.specs.Float.{whole}
 use Rattle.clock.specs.declared.clock_speed.ClockSpeed.{ClockSpeed}
 use Rattle.clock.specs.declared.clock_speed.ClockSpeed.the-variants.{SecondsPerTick, TicksPerSecond, TicksPerMinute}
-
--- a whole number as an f64
-abbrev pub whole : ℕ → Float
-whole n = ofInt binary64 (pos n)
 
 unfoldable pub asTicksPerSecond : ClockSpeed → Float
 asTicksPerSecond (SecondsPerTick s) = div binary64 (whole 1) s

@@ -16,8 +16,8 @@ use Rattle.clock.specs.ClockTime.{atOrAfter}
 use Rattle.clock.specs.Clock.{timeOf, updated, IsStep, ClockWithin, lastTick}
 
 -- what stands past the end of an array of clocks
-abbrev pub noClock : Clock
-noClock = record { ticking = false; speed = SecondsPerTick nan; state = NotStarted }
+abbrev pub absentClock : Clock
+absentClock = record { ticking = false; speed = SecondsPerTick nan; state = NotStarted }
 
 -- each of the first `count` clocks moves
 unfoldable pub clocksUpdated : Clocks → Float → Clocks
@@ -27,7 +27,7 @@ clocksUpdated cs dt = record { clocks = changed (λ i c. updated c dt) (cs .coun
 -- clocks of allowed speeds that have counted n ticks at most
 pub record ClocksWithin (n : ℕ) (cs : Clocks) : Type 0 where
   pub few : cs .count ≤ 8
-  pub each : (i : ℕ) → i < cs .count → ClockWithin n (getD (cs .clocks) i noClock)
+  pub each : (i : ℕ) → i < cs .count → ClockWithin n (getD (cs .clocks) i absentClock)
 
 -- what their update asks
 pub record CanMoveAll (cs : Clocks) (dt : Float) : Type 0 where
@@ -37,5 +37,5 @@ pub record CanMoveAll (cs : Clocks) (dt : Float) : Type 0 where
 unfoldable pub whenToStart : Clocks → ClockTime → WhenToStart
 unfolding timeOf atOrAfter
 whenToStart cs time =
-    let clock = getD (cs .clocks) (time .clock) noClock in
+    let clock = getD (cs .clocks) (time .clock) absentClock in
     cond (ltb (time .clock) (cs .count)) (cond (clock .ticking && atOrAfter (timeOf clock (time .clock)) time) Now Later) Never

@@ -2,7 +2,7 @@
 // tweened), and whether it ticks is said when it is made.
 ghost use mathlib.Core.Path.{_≡_};
 ghost use Rattle.clock.specs.Clock.{newClock, updated, timeOf, taken, CanMove};
-ghost use Rattle.clock.specs.Ticks.{CanTake};
+ghost use Rattle.clock.specs.Clock.{CanTake};
 use crate::clock_speed::ClockSpeed;
 use crate::clock_time::ClockTime;
 

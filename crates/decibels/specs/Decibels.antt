@@ -1,18 +1,11 @@
-pub mod Position
-pub mod WholePart
-pub mod Laws
 -- decibels.rs: `Decibels::as_amplitude`, with the gain table in place of `powf`.
 use mathlib.Core.Bool.{Bool, true, false, cond, not, _&&_}
 use Prim.Native.Nat.{ℕ, suc, _+_, _-_, _*_, _/_, _%_, _^_, _<_}
-use lib.IntN.{pos}
 use lib.Dec.{T}
-use lib.Ieee.{Float, nan, inf, fin, binary64, up, down, round, neg, add, sub, mul, div, eq, le, ofInt, isNan}
-use Rattle.number.specs.Narrow.{narrowed}
+use lib.Ieee.{Float, nan, inf, fin, binary64, up, down, round, neg, add, sub, mul, div, eq, le, isNan}
+use Rattle.laws.specs.Float.{whole}
+use Rattle.rounding.specs.Narrow.{narrowed}
 use Rattle.gain_table.specs.GainTable.{entry, entries}
-
--- whole numbers of either format
-abbrev pub whole : ℕ → Float
-whole n = ofInt binary64 (pos n)
 
 -- the largest number of decibels that has an amplitude, 24.0
 abbrev pub limit : Float

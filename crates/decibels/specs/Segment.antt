@@ -5,9 +5,10 @@ use Prim.Native.Nat.{ℕ, suc, _<_}
 use lib.IntN.{pos}
 use lib.Dec.{ltb}
 use lib.Ieee.{Float, binary32, binary64, sub, div, lt, eq, le, ofInt}
+use Rattle.laws.specs.Float.{whole}
 use Rattle.gain_table.specs.GainTable.{entry, entries}
 use Rattle.decibels.specs.declared.segment.Segment.{Segment}
-use Rattle.decibels.specs.Decibels.{whole, silence, entryBelow}
+use Rattle.decibels.specs.Decibels.{silence, entryBelow}
 
 -- where entry k stands: k - 960 sixteenths of a decibel
 unfoldable pub stepsAt : ℕ → Float
@@ -31,8 +32,8 @@ unfoldable pub segmentOf : Float → ℕ
 segmentOf n = cond (eq n (whole 0)) 960 (cond (le n silence) 0 (cond (ltb (entryBelow n) 1343) (entryBelow n) 1343))
 
 -- n stands between the ends
-unfoldable pub holds : Segment → Float → Bool
-holds s n = lt (s .low) n && lt n (s .high)
+unfoldable pub contains : Segment → Float → Bool
+contains s n = lt (s .low) n && lt n (s .high)
 
 -- it is one of the table's
 pub record IsSegment (s : Segment) : Type 0 where

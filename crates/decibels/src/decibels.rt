@@ -4,8 +4,9 @@ ghost use mathlib.Core.Bool.{not};
 ghost use Prim.Native.Nat.{_^_, _<_};
 ghost use lib.Ieee as Ieee;
 ghost use lib.Dec.{T};
+ghost use Rattle.laws.specs.Float.{whole};
 ghost use Rattle.gain_table.specs.GainTable.{IsGainTable};
-ghost use Rattle.decibels.specs.Decibels.{amplitude, admitted, silence, whole, entryBelow, restAbove, lineAt, OnTable};
+ghost use Rattle.decibels.specs.Decibels.{amplitude, admitted, silence, entryBelow, restAbove, lineAt, OnTable};
 ghost use Rattle.decibels.specs.Answer.{answered, amplitudeAnswer};
 use gain_table::gain_table;
 
@@ -60,7 +61,7 @@ impl Decibels {
         }
         let position = position_of(n);
         let line = line(table, position.entry, position.rest);
-        Amplitude(number::f64_to_f32(line / 1099511627776.0))
+        Amplitude(rounding::f64_to_f32(line / 1099511627776.0))
     }
 }
 

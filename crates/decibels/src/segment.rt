@@ -7,7 +7,7 @@ ghost use Prim.Native.Nat.{_≤_};
 ghost use lib.Dec.{T};
 ghost use Rattle.gain_table.specs.GainTable.{IsGainTable};
 ghost use Rattle.decibels.specs.Decibels.{amplitude, admitted};
-ghost use Rattle.decibels.specs.Segment.{stepsAt, decibelsAt, segment, segmentOf, holds, IsSegment};
+ghost use Rattle.decibels.specs.Segment.{stepsAt, decibelsAt, segment, segmentOf, contains, IsSegment};
 use crate::decibels::Amplitude;
 use crate::decibels::Decibels;
 use crate::decibels::SILENCE;
@@ -78,7 +78,7 @@ pub fn segment_of(level: Decibels, table: &[u64; 1345]) -> Segment
 impl Segment {
     // Whether a level stands between its ends.
     pub fn holds(self, level: Decibels) -> bool
-        ensures { λ r. ⌜ r ≡ holds self (level .0) ⌝ }
+        ensures { λ r. ⌜ r ≡ contains self (level .0) ⌝ }
     {
         let n = level.0;
         if self.low < n {
@@ -90,12 +90,12 @@ impl Segment {
     // The amplitude of such a level.
     pub fn amplitude_of(self, level: Decibels) -> Amplitude
         requires { ⌜ IsSegment self ⌝ }
-        requires { ⌜ T (holds self (level .0)) ⌝ }
+        requires { ⌜ T (contains self (level .0)) ⌝ }
         ensures { λ r. ⌜ r .0 ≡ amplitude (level .0) ⌝ }
     {
         let n = level.0;
         let rest = (n as f64) * 16.0 - self.from;
         let line = self.first + self.rise * rest;
-        Amplitude(number::normal_f64_to_f32(line / 1099511627776.0))
+        Amplitude(rounding::normal_f64_to_f32(line / 1099511627776.0))
     }
 }

@@ -1,6 +1,5 @@
 -- The gain table (01's ladder of 1,345 rungs): entry n, from 0 to 1344, stands for rung k = n - 960, the whole part of 2^40 * 10^(k / 320).
 -- Everything is said with whole numbers: r is at most 2^40 * 10^(k / 320) where r^320 is at most 2^12800 * 10^k.
-pub mod Laws
 use mathlib.Core.Path.{_≡_}
 use mathlib.Core.Bool.{Bool, cond, not}
 use mathlib.Core.List.{List}

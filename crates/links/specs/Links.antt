@@ -1,15 +1,10 @@
 -- Lines by their owner. Lines are counted from 1, and 0 is none.
 use mathlib.Core.Bool.{cond}
 use mathlib.Core.List.{List}
-use Prim.Native.Nat.{ℕ, zero, suc, _+_}
-use lib.Dec.{eqb, ltb}
+use Prim.Native.Nat.{ℕ, suc, _+_}
+use lib.Dec.{ltb}
 use lib.ListN.{getD, set, replicate}
 use Rattle.laws.specs.Loop.{upto}
-
--- the last of the first n lines whose owner is o
-unfoldable pub lastOf : (ℕ → ℕ) → ℕ → ℕ → ℕ
-lastOf owner o zero = 0
-lastOf owner o (suc n) = cond (eqb (owner n) o) (suc n) (lastOf owner o n)
 
 -- line k + 1 is linked: to its owner's last line so far, whose place it takes
 unfoldable pub linked : (ℕ → ℕ) → ℕ → List ℕ → List ℕ
@@ -20,5 +15,5 @@ unfoldable pub linksOf : (ℕ → ℕ) → ℕ → List ℕ
 linksOf owner n = upto (linked owner) n (replicate 97 0)
 
 -- a column of owners in an array, from a place on
-abbrev pub column : List ℕ → ℕ → ℕ → ℕ
-column places first k = getD places (first + k) 0
+abbrev pub columnFrom : List ℕ → ℕ → ℕ → ℕ
+columnFrom places first k = getD places (first + k) 0

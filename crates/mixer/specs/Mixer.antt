@@ -21,7 +21,7 @@ use Rattle.playback.specs.declared.playback_state_manager.PlaybackState.the-var
 use Rattle.scene.specs.declared.scene.Scene.{Scene}
 use Rattle.scene.specs.declared.scene.TrackLine.{TrackLine}
 use Rattle.scene.specs.declared.scene.RouteLine.{RouteLine}
-use Rattle.accepted.specs.Lines.{absentTrack, absentRoute, clockLine, trackLine, sendLine, routeLine}
+use Rattle.accepted.specs.Lines.{clockLine, trackLine, sendLine, routeLine, absentTrackLine, absentRouteLine}
 use Rattle.mixer.specs.declared.sub.Track.{Track}
 use Rattle.mixer.specs.declared.mixer.Mixer.{Mixer}
 use Rattle.mixer.specs.Sub.{trackNew, trackUpdate}
@@ -69,11 +69,11 @@ mixerNew s =
 abbrev pub absentParameter : Parameter
 absentParameter = record { state = Idle (record { 0 = nan }); «raw_value» = record { 0 = nan }; «previous_raw_value» = record { 0 = nan }; stagnant = false }
 
-abbrev pub absentState : Track
-absentState = record { volume = absentParameter; playback = record { state = Playing; «volume_fade» = absentParameter }; reached = false; live = false }
+abbrev pub absentTrack : Track
+absentTrack = record { volume = absentParameter; playback = record { state = Playing; «volume_fade» = absentParameter }; reached = false; live = false }
 
 abbrev pub stateOf : List Track → ℕ → Track
-stateOf tracks t = getD tracks t absentState
+stateOf tracks t = getD tracks t absentTrack
 
 abbrev pub parameterOf : List Parameter → ℕ → Parameter
 parameterOf ps i = getD ps i absentParameter
@@ -89,7 +89,7 @@ liveAbove tracks line = liveAt (stateOf tracks (line - 1)) line
 
 -- A track is reached where what it stands under is live. That stands on an earlier line, so it has moved already.
 unfoldable pub trackStep : List TrackLine → Float → Clocks → ℕ → List Track → List Track
-trackStep lines dt clocks t tracks = set tracks t (trackUpdate (stateOf tracks t) (liveAbove tracks (getD lines t absentTrack .parent)) dt clocks)
+trackStep lines dt clocks t tracks = set tracks t (trackUpdate (stateOf tracks t) (liveAbove tracks (getD lines t absentTrackLine .parent)) dt clocks)
 
 unfoldable pub tracksUpdate : List TrackLine → ℕ → Float → Clocks → List Track → List Track
 tracksUpdate lines count dt clocks tracks = upto (trackStep lines dt clocks) count tracks
@@ -99,7 +99,7 @@ updatedWhere p moves dt clocks = cond moves (parameterUpdate p dt clocks .parame
 
 -- a route moves where its track is reached, live or not
 unfoldable pub routeUpdate : List RouteLine → Float → Clocks → List Track → ℕ → Parameter → Parameter
-routeUpdate lines dt clocks tracks r p = updatedWhere p (stateOf tracks (getD lines r absentRoute .track - 1) .reached) dt clocks
+routeUpdate lines dt clocks tracks r p = updatedWhere p (stateOf tracks (getD lines r absentRouteLine .track - 1) .reached) dt clocks
 
 unfoldable pub routesUpdate : List RouteLine → ℕ → Float → Clocks → List Track → List Parameter → List Parameter
 routesUpdate lines count dt clocks tracks routes = changed (routeUpdate lines dt clocks tracks) count routes

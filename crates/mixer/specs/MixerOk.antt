@@ -5,8 +5,8 @@ use lib.Dec.{T}
 use lib.ListN.{getD, length}
 use Rattle.decibels.specs.Decibels.{admitted}
 use Rattle.clock.specs.WhenToStart.{ClocksWithin}
-use Rattle.parameter.specs.ParameterLaws.{ParameterIn, valueRange}
-use Rattle.playback.specs.PlaybackStateManagerLaws.{Runs}
+use Rattle.parameter.specs.Range.{ParameterIn, valueRange}
+use Rattle.playback.specs.Runs.{Runs}
 use Rattle.scene.specs.declared.scene.Scene.{Scene}
 use Rattle.accepted.specs.Lines.{soundLine}
 use Rattle.mixer.specs.declared.sub.Track.{Track}

@@ -16,7 +16,7 @@ use Rattle.scene.specs.declared.scene.OrderKind.the-variants.{MainVolume, Track
 use Rattle.mixer.specs.declared.sub.Track.{Track}
 use Rattle.mixer.specs.declared.mixer.Mixer.{Mixer}
 use Rattle.mixer.specs.Sub.{trackSet, trackPause, trackResume}
-use Rattle.accepted.specs.Lines.{absentOrder, orderLine}
+use Rattle.accepted.specs.Lines.{orderLine, absentOrderLine}
 use Rattle.mixer.specs.Mixer.{stateOf, parameterOf}
 
 -- ---- which orders count: of a block's orders alike in kind and index only the last
@@ -30,19 +30,19 @@ kindNumber Pause = 4
 kindNumber Resume = 5
 
 -- of one block, and alike in kind and index
-unfoldable pub alike : OrderLine → OrderLine → Bool
-alike a b = eqb (a .block) (b .block) && (eqb (kindNumber (a .kind)) (kindNumber (b .kind)) && eqb (a .index) (b .index))
+unfoldable pub sameKindAndIndex : OrderLine → OrderLine → Bool
+sameKindAndIndex a b = eqb (a .block) (b .block) && (eqb (kindNumber (a .kind)) (kindNumber (b .kind)) && eqb (a .index) (b .index))
 
 -- the order on line j is later than the one on line i and alike, or one such was found before
 unfoldable pub foundLater : OrderLine → OrderLine → ℕ → ℕ → Bool → Bool
-foundLater order other i j found = cond (ltb i j && alike order other) true found
+foundLater order other i j found = cond (ltb i j && sameKindAndIndex order other) true found
 
 -- a later order is alike
 unfoldable pub overridden : List OrderLine → ℕ → ℕ → Bool
-overridden orders count i = upto (λ j found. foundLater (getD orders i absentOrder) (getD orders j absentOrder) i j found) count false
+overridden orders count i = upto (λ j found. foundLater (getD orders i absentOrderLine) (getD orders j absentOrderLine) i j found) count false
 
 unfoldable pub counts : List OrderLine → ℕ → ℕ → ℕ → Bool
-counts orders count block i = eqb (getD orders i absentOrder .block) block && not (overridden orders count i)
+counts orders count block i = eqb (getD orders i absentOrderLine .block) block && not (overridden orders count i)
 
 -- ---- what an order does. A line number counts from 1
 
@@ -53,8 +53,8 @@ tweenOf o = record { «start_time» = o .«start_time»; duration = o .millis; e
 unfoldable pub resumeTweenOf : OrderLine → Tween
 resumeTweenOf o = record { «start_time» = Immediate; duration = o .millis; easing = o .easing }
 
-unfoldable pub withTrack : ℕ → (Track → Track) → Mixer → Mixer
-withTrack line f m =
+unfoldable pub mapTrack : ℕ → (Track → Track) → Mixer → Mixer
+mapTrack line f m =
     record {
       clocks = m .clocks;
       «main_volume» = m .«main_volume»;
@@ -64,8 +64,8 @@ withTrack line f m =
       played = m .played;
     }
 
-unfoldable pub withSend : ℕ → (Parameter → Parameter) → Mixer → Mixer
-withSend line f m =
+unfoldable pub mapSend : ℕ → (Parameter → Parameter) → Mixer → Mixer
+mapSend line f m =
     record {
       clocks = m .clocks;
       «main_volume» = m .«main_volume»;
@@ -75,8 +75,8 @@ withSend line f m =
       played = m .played;
     }
 
-unfoldable pub withRoute : ℕ → (Parameter → Parameter) → Mixer → Mixer
-withRoute line f m =
+unfoldable pub mapRoute : ℕ → (Parameter → Parameter) → Mixer → Mixer
+mapRoute line f m =
     record {
       clocks = m .clocks;
       «main_volume» = m .«main_volume»;
@@ -86,8 +86,8 @@ withRoute line f m =
       played = m .played;
     }
 
-unfoldable pub withMain : (Parameter → Parameter) → Mixer → Mixer
-withMain f m =
+unfoldable pub mapMain : (Parameter → Parameter) → Mixer → Mixer
+mapMain f m =
     record {
       clocks = m .clocks;
       «main_volume» = f (m .«main_volume»);
@@ -99,11 +99,11 @@ withMain f m =
 
 -- volumes and pauses
 unfoldable pub orderedBy : OrderKind → OrderLine → Mixer → Mixer
-orderedBy MainVolume o m = withMain (λ p. parameterSet p (o .target) (tweenOf o)) m
-orderedBy TrackVolume o m = withTrack (o .index) (λ t. trackSet t (o .target) (tweenOf o)) m
-orderedBy SendVolume o m = withSend (o .index) (λ p. parameterSet p (o .target) (tweenOf o)) m
-orderedBy RouteVolume o m = withRoute (o .index) (λ p. parameterSet p (o .target) (tweenOf o)) m
-orderedBy Pause o m = withTrack (o .index) (λ t. trackPause t (tweenOf o)) m
+orderedBy MainVolume o m = mapMain (λ p. parameterSet p (o .target) (tweenOf o)) m
+orderedBy TrackVolume o m = mapTrack (o .index) (λ t. trackSet t (o .target) (tweenOf o)) m
+orderedBy SendVolume o m = mapSend (o .index) (λ p. parameterSet p (o .target) (tweenOf o)) m
+orderedBy RouteVolume o m = mapRoute (o .index) (λ p. parameterSet p (o .target) (tweenOf o)) m
+orderedBy Pause o m = mapTrack (o .index) (λ t. trackPause t (tweenOf o)) m
 orderedBy Resume o m = m
 
 -- resumes
@@ -113,7 +113,7 @@ resumedBy TrackVolume o m = m
 resumedBy SendVolume o m = m
 resumedBy RouteVolume o m = m
 resumedBy Pause o m = m
-resumedBy Resume o m = withTrack (o .index) (λ t. trackResume t (o .«start_time») (resumeTweenOf o)) m
+resumedBy Resume o m = mapTrack (o .index) (λ t. trackResume t (o .«start_time») (resumeTweenOf o)) m
 
 -- ---- a block's orders. A track reads volume, routes, pause, then resume (`read_commands`): so resumes come after all others.
 

@@ -9,8 +9,8 @@ use Rattle.scene.specs.declared.scene.Scene.{Scene}
 use Rattle.scene.specs.declared.scene.SoundLine.{SoundLine}
 use Rattle.mixer.specs.declared.sub.Track.{Track}
 use Rattle.mixer.specs.declared.mixer.Mixer.{Mixer}
-use Rattle.accepted.specs.Lines.{absentSound}
 use Rattle.mixer.specs.Mixer.{liveAbove}
+use Rattle.accepted.specs.Lines.{absentSoundLine}
 
 -- n frames more, and its count at most
 unfoldable pub playedMore : SoundLine → ℕ → ℕ → ℕ
@@ -25,7 +25,7 @@ unfoldable pub playedAfter : List Track → SoundLine → ℕ → ℕ → ℕ
 playedAfter tracks line n done = playedWhere (liveAbove tracks (line .track)) line n done
 
 unfoldable pub playedOn : List SoundLine → ℕ → List Track → ℕ → List ℕ → List ℕ
-playedOn lines count tracks n played = changed (λ k done. playedAfter tracks (getD lines k absentSound) n done) count played
+playedOn lines count tracks n played = changed (λ k done. playedAfter tracks (getD lines k absentSoundLine) n done) count played
 
 unfoldable pub soundsPlayed : Scene → ℕ → Mixer → Mixer
 soundsPlayed s n m =

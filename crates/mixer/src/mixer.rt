@@ -2,9 +2,9 @@
 ghost use mathlib.Core.Path.{_≡_};
 ghost use Prim.Native.Nat.{ℕ, _-_, _≤_, _<_};
 ghost use lib.ListN.{getD};
-ghost use Rattle.number.specs.Duration.{InAnHour};
+ghost use Rattle.rounding.specs.Duration.{InAnHour};
 ghost use Rattle.clock.specs.WhenToStart.{CanMoveAll};
-ghost use Rattle.accepted.specs.Lines.{absentTrack, absentRoute};
+ghost use Rattle.accepted.specs.Lines.{absentTrackLine, absentRouteLine};
 ghost use Rattle.accepted.specs.SceneOk.{SceneOk, Names};
 ghost use Rattle.mixer.specs.Mixer.{clocksNew, tracksNew, sendsNew, routesNew, mixerNew, liveAt, tracksUpdate, updatedWhere, routesUpdate, sendsUpdate, mixerUpdate};
 use crate::sub::Track;
@@ -126,7 +126,7 @@ fn update_tracks(
     clocks: Clocks,
 ) -> [Track; 32]
     requires { ⌜ count ≤ 32 ⌝ }
-    requires { ⌜ ((t : ℕ) → t < count → getD lines t absentTrack .parent ≤ t) ⌝ }
+    requires { ⌜ ((t : ℕ) → t < count → getD lines t absentTrackLine .parent ≤ t) ⌝ }
     requires { ⌜ InAnHour dt ⌝ }
     requires { ⌜ clocks .count ≤ 8 ⌝ }
     ensures { λ r. ⌜ r ≡ tracksUpdate lines count dt clocks tracks ⌝ }
@@ -167,7 +167,7 @@ fn update_routes(
     clocks: Clocks,
 ) -> [Parameter; 64]
     requires { ⌜ count ≤ 64 ⌝ }
-    requires { ⌜ ((r : ℕ) → r < count → Names 32 (getD lines r absentRoute .track)) ⌝ }
+    requires { ⌜ ((r : ℕ) → r < count → Names 32 (getD lines r absentRouteLine .track)) ⌝ }
     requires { ⌜ InAnHour dt ⌝ }
     requires { ⌜ clocks .count ≤ 8 ⌝ }
     ensures { λ r. ⌜ r ≡ routesUpdate lines count dt clocks tracks routes ⌝ }

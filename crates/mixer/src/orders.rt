@@ -4,7 +4,7 @@ ghost use Prim.Native.Nat.{_≤_, _<_};
 ghost use Rattle.accepted.specs.SceneOk.{SceneOk, OrderOk, Names};
 ghost use Rattle.parameter.specs.Parameter.{parameterSet};
 ghost use Rattle.mixer.specs.Sub.{trackSet, trackPause, trackResume};
-ghost use Rattle.mixer.specs.Orders.{kindNumber, alike, foundLater, overridden, counts, tweenOf, resumeTweenOf, withMain, withTrack, withSend, withRoute, orderedBy, resumedBy, orderStep, resumeStep, mixerOrdered};
+ghost use Rattle.mixer.specs.Orders.{kindNumber, sameKindAndIndex, foundLater, overridden, counts, tweenOf, resumeTweenOf, mapMain, mapTrack, mapSend, mapRoute, orderedBy, resumedBy, orderStep, resumeStep, mixerOrdered};
 ghost use Rattle.laws.specs.Loop.{upto};
 use crate::mixer::Mixer;
 use decibels::Decibels;
@@ -29,7 +29,7 @@ fn kind_number(kind: OrderKind) -> u32
 
 // Of one block, and alike in kind and index.
 fn alike(a: OrderLine, b: OrderLine) -> bool
-    ensures { λ r. ⌜ r ≡ alike a b ⌝ }
+    ensures { λ r. ⌜ r ≡ sameKindAndIndex a b ⌝ }
 {
     if a.block != b.block {
         return false;
@@ -112,7 +112,7 @@ fn resume_tween_of(order: OrderLine) -> Tween
 
 impl Mixer {
     fn set_main_volume(mut self, target: Decibels, tween: Tween) -> Mixer
-        ensures { λ r. ⌜ r ≡ withMain (λ p. parameterSet p target tween) self ⌝ }
+        ensures { λ r. ⌜ r ≡ mapMain (λ p. parameterSet p target tween) self ⌝ }
     {
         let volume = self.main_volume;
         self.main_volume = volume.set(target, tween);
@@ -121,7 +121,7 @@ impl Mixer {
 
     fn set_track_volume(mut self, line: usize, target: Decibels, tween: Tween) -> Mixer
         requires { ⌜ Names 32 line ⌝ }
-        ensures { λ r. ⌜ r ≡ withTrack line (λ t. trackSet t target tween) self ⌝ }
+        ensures { λ r. ⌜ r ≡ mapTrack line (λ t. trackSet t target tween) self ⌝ }
     {
         let i = line - 1;
         let mut tracks = self.tracks;
@@ -133,7 +133,7 @@ impl Mixer {
 
     fn set_send_volume(mut self, line: usize, target: Decibels, tween: Tween) -> Mixer
         requires { ⌜ Names 8 line ⌝ }
-        ensures { λ r. ⌜ r ≡ withSend line (λ p. parameterSet p target tween) self ⌝ }
+        ensures { λ r. ⌜ r ≡ mapSend line (λ p. parameterSet p target tween) self ⌝ }
     {
         let i = line - 1;
         let mut sends = self.sends;
@@ -145,7 +145,7 @@ impl Mixer {
 
     fn set_route_volume(mut self, line: usize, target: Decibels, tween: Tween) -> Mixer
         requires { ⌜ Names 64 line ⌝ }
-        ensures { λ r. ⌜ r ≡ withRoute line (λ p. parameterSet p target tween) self ⌝ }
+        ensures { λ r. ⌜ r ≡ mapRoute line (λ p. parameterSet p target tween) self ⌝ }
     {
         let i = line - 1;
         let mut routes = self.routes;
@@ -157,7 +157,7 @@ impl Mixer {
 
     fn pause_track(mut self, line: usize, tween: Tween) -> Mixer
         requires { ⌜ Names 32 line ⌝ }
-        ensures { λ r. ⌜ r ≡ withTrack line (λ t. trackPause t tween) self ⌝ }
+        ensures { λ r. ⌜ r ≡ mapTrack line (λ t. trackPause t tween) self ⌝ }
     {
         let i = line - 1;
         let mut tracks = self.tracks;
@@ -169,7 +169,7 @@ impl Mixer {
 
     fn resume_track(mut self, line: usize, start: StartTime, tween: Tween) -> Mixer
         requires { ⌜ Names 32 line ⌝ }
-        ensures { λ r. ⌜ r ≡ withTrack line (λ t. trackResume t start tween) self ⌝ }
+        ensures { λ r. ⌜ r ≡ mapTrack line (λ t. trackResume t start tween) self ⌝ }
     {
         let i = line - 1;
         let mut tracks = self.tracks;

@@ -2,7 +2,7 @@
 ghost use mathlib.Core.Path.{_≡_};
 ghost use Prim.Native.Nat.{ℕ, _≤_, _<_};
 ghost use lib.ListN.{getD};
-ghost use Rattle.accepted.specs.Lines.{absentSound};
+ghost use Rattle.accepted.specs.Lines.{absentSoundLine};
 ghost use Rattle.accepted.specs.SceneOk.{SceneOk};
 ghost use Rattle.mixer.specs.Mixer.{liveAt};
 ghost use Rattle.mixer.specs.Sounds.{playedMore, playedWhere, playedOn, soundsPlayed};
@@ -43,8 +43,8 @@ fn played_on(
     frames: usize,
 ) -> [usize; 64]
     requires { ⌜ count ≤ 64 ⌝ }
-    requires { ⌜ ((k : ℕ) → k < count → getD lines k absentSound .track ≤ 32) ⌝ }
-    requires { ⌜ ((k : ℕ) → k < count → getD played k 0 ≤ getD lines k absentSound .count) ⌝ }
+    requires { ⌜ ((k : ℕ) → k < count → getD lines k absentSoundLine .track ≤ 32) ⌝ }
+    requires { ⌜ ((k : ℕ) → k < count → getD played k 0 ≤ getD lines k absentSoundLine .count) ⌝ }
     ensures { λ r. ⌜ r ≡ playedOn lines count tracks frames played ⌝ }
 {
     let mut next = played;
@@ -63,7 +63,7 @@ impl Mixer {
     // The sounds of the main track and of live tracks have played so many frames more.
     pub fn sounds_played(mut self, scene: Scene, frames: usize) -> Mixer
         requires { ⌜ SceneOk scene ⌝ }
-        requires { ⌜ ((k : ℕ) → k < scene .«sound_count» → getD (self .played) k 0 ≤ getD (scene .sounds) k absentSound .count) ⌝ }
+        requires { ⌜ ((k : ℕ) → k < scene .«sound_count» → getD (self .played) k 0 ≤ getD (scene .sounds) k absentSoundLine .count) ⌝ }
         ensures { λ r. ⌜ r ≡ soundsPlayed scene frames self ⌝ }
     {
         let lines = scene.sounds;

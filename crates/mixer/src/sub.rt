@@ -1,7 +1,7 @@
 // kira's track/sub.rs: the state of a track, and how its orders and a chunk move it.
 ghost use mathlib.Core.Path.{_≡_};
 ghost use Prim.Native.Nat.{_≤_};
-ghost use Rattle.number.specs.Duration.{InAnHour};
+ghost use Rattle.rounding.specs.Duration.{InAnHour};
 ghost use Rattle.mixer.specs.Sub.{trackNew, trackMoved, trackStill, trackUpdate, trackSet, trackPause, trackResume};
 use clock::Clocks;
 use decibels::Decibels;

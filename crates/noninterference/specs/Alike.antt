@@ -3,13 +3,13 @@ use mathlib.Core.Bool.{Bool, true, false, cond, _&&_, _||_}
 use mathlib.Core.List.{List, [], _∷_, map}
 use Prim.Native.Nat.{ℕ, _*_}
 use lib.Dec.{eqb}
-use lib.ListN.{length, set, take, drop}
+use lib.ListN.{set, take, drop}
 use lib.Ieee.{Float, binary32, toBits}
 use Rattle.laws.specs.Kept.{keptOf}
 use Rattle.scene_tables.specs.Bytes.{every}
 use Rattle.scene_tables.specs.Tables.{natural, head, clocks, tracks, sends, routes, sounds, orders}
 use Rattle.scene_questions.specs.Questions.{Tables, rowsAt, linesAt, field}
-use Rattle.noninterference.specs.Removed.{Choice, keptTracks, keptSounds, left, leftTables}
+use Rattle.noninterference.specs.Removed.{Choice, keptTracks, keptSounds, leftTables, linesLeft}
 use Rattle.noninterference.specs.Silent.{muted, held}
 
 -- two lists whose elements are the same, one by one
@@ -37,7 +37,7 @@ sameTables left₁ left₂ =
 
 -- which of the tracks left are chosen
 unfoldable pub chosenLeft : Tables → Choice → List (List ℕ)
-chosenLeft ts chosen = left (keptTracks ts chosen) (λ t row. cond (chosen t) (1 ∷ []) (0 ∷ [])) (rowsAt ts tracks)
+chosenLeft ts chosen = linesLeft (keptTracks ts chosen) (λ t row. cond (chosen t) (1 ∷ []) (0 ∷ [])) (rowsAt ts tracks)
 
 -- the samples of the frames that each sound left plays: count frames from first on
 unfoldable pub framesLeft : Tables → Choice → List Float → List (List Float)

@@ -1,15 +1,19 @@
 -- What lies inside chosen tracks (document 01, "Demand 3's words"). 01 calls the lines that are removed here struck.
 -- A choice says of each line of the tracks table, counted from 0, whether it is chosen.
-use mathlib.Core.Bool.{Bool, true, false, cond, not, _||_}
-use mathlib.Core.List.{List, [], _∷_}
+use mathlib.Core.Bool.{Bool, false, not, cond, _||_}
 use Prim.Native.Nat.{ℕ, zero, suc}
 use lib.Dec.{eqb}
+use mathlib.Core.List.{List, [], _∷_}
 use lib.ListN.{length, set}
-use Rattle.laws.specs.Kept.{keptOf}
+use Rattle.laws.specs.Kept.{rank, keptOf}
 use Rattle.laws.specs.Loop.{changed}
-use Rattle.scene_tables.specs.Tables.{plus, natural, head, clocks, tracks, sends, routes, sounds, orders}
+use Rattle.scene_tables.specs.Tables.{natural, head, clocks, tracks, sends, routes, sounds, orders, raised}
 use Rattle.scene_questions.specs.Questions.{Tables, rowsAt, field, cell, parentOf}
-use Rattle.noninterference.specs.Lines.{newLine}
+
+-- the number of a line among the lines kept
+unfoldable pub newLine : (ℕ → Bool) → ℕ → ℕ
+newLine keep zero = 0
+newLine keep (suc p) = suc (rank keep p)
 
 abbrev pub Choice : Type 0
 Choice = ℕ → Bool
@@ -47,7 +51,7 @@ unfoldable pub removedOrder : Tables → Choice → ℕ → Bool
 removedOrder ts chosen i =
     let kind = cell (rowsAt ts orders) i 1 in
     let index = natural (cell (rowsAt ts orders) i 2) in
-    cond (eqb kind (plus 2)) false (cond (eqb kind (plus 3)) (namesRemoved (removedRoute ts chosen) index) (namesRemoved (removedTrack ts chosen) index))
+    cond (eqb kind (raised 2)) false (cond (eqb kind (raised 3)) (namesRemoved (removedRoute ts chosen) index) (namesRemoved (removedTrack ts chosen) index))
 
 -- ---- the lines left, with references counted among those lines alone
 
@@ -64,24 +68,24 @@ abbrev pub keptOrders : Tables → Choice → ℕ → Bool
 keptOrders ts chosen i = not (removedOrder ts chosen i)
 
 -- a line whose field j names a line of a table
-unfoldable pub counted : (ℕ → Bool) → ℕ → List ℕ → List ℕ
-counted keep j row = set row j (plus (newLine keep (natural (field row j))))
+unfoldable pub renumbered : (ℕ → Bool) → ℕ → List ℕ → List ℕ
+renumbered keep j row = set row j (raised (newLine keep (natural (field row j))))
 
-unfoldable pub countedOrder : Tables → Choice → List ℕ → List ℕ
-countedOrder ts chosen row =
-    cond (eqb (field row 1) (plus 2)) row (cond (eqb (field row 1) (plus 3)) (counted (keptRoutes ts chosen) 2 row) (counted (keptTracks ts chosen) 2 row))
+unfoldable pub renumberedOrder : Tables → Choice → List ℕ → List ℕ
+renumberedOrder ts chosen row =
+    cond (eqb (field row 1) (raised 2)) row (cond (eqb (field row 1) (raised 3)) (renumbered (keptRoutes ts chosen) 2 row) (renumbered (keptTracks ts chosen) 2 row))
 
 -- the lines left of a table, each made anew
-unfoldable pub left : (ℕ → Bool) → (ℕ → List ℕ → List ℕ) → List (List ℕ) → List (List ℕ)
-left keep f rows = keptOf keep (changed f (length rows) rows)
+unfoldable pub linesLeft : (ℕ → Bool) → (ℕ → List ℕ → List ℕ) → List (List ℕ) → List (List ℕ)
+linesLeft keep f rows = keptOf keep (changed f (length rows) rows)
 
 unfoldable pub leftTables : Tables → Choice → Tables
 leftTables ts chosen =
     rowsAt ts head
     ∷ rowsAt ts clocks
-    ∷ left (keptTracks ts chosen) (λ t row. counted (keptTracks ts chosen) 0 row) (rowsAt ts tracks)
+    ∷ linesLeft (keptTracks ts chosen) (λ t row. renumbered (keptTracks ts chosen) 0 row) (rowsAt ts tracks)
     ∷ rowsAt ts sends
-    ∷ left (keptRoutes ts chosen) (λ r row. counted (keptTracks ts chosen) 0 row) (rowsAt ts routes)
-    ∷ left (keptSounds ts chosen) (λ k row. counted (keptTracks ts chosen) 0 row) (rowsAt ts sounds)
-    ∷ left (keptOrders ts chosen) (λ i row. countedOrder ts chosen row) (rowsAt ts orders)
+    ∷ linesLeft (keptRoutes ts chosen) (λ r row. renumbered (keptTracks ts chosen) 0 row) (rowsAt ts routes)
+    ∷ linesLeft (keptSounds ts chosen) (λ k row. renumbered (keptTracks ts chosen) 0 row) (rowsAt ts sounds)
+    ∷ linesLeft (keptOrders ts chosen) (λ i row. renumberedOrder ts chosen row) (rowsAt ts orders)
     ∷ []

@@ -1,4 +1,2 @@
 pub mod Parameter
-pub mod ParameterLaws
-pub mod Rows
-pub mod Settled
+pub mod Range

@@ -2,8 +2,8 @@
 use mathlib.Core.Bool.{Bool, true, false, cond}
 use lib.Dec.{eqb}
 use lib.Ieee.{Float, binary64, add, le}
-use Rattle.laws.specs.FloatLiteral.{posZero}
-use Rattle.number.specs.Duration.{secsFromMillis}
+use Rattle.laws.specs.Float.{posZero}
+use Rattle.rounding.specs.Duration.{secsFromMillis}
 use Rattle.decibels.specs.declared.decibels.Decibels.{Decibels}
 use Rattle.clock.specs.declared.when_to_start.Clocks.{Clocks}
 use Rattle.clock.specs.declared.when_to_start.WhenToStart.{WhenToStart}

@@ -1,7 +1,7 @@
 // kira's parameter.rs, for decibels and fixed targets.
 ghost use mathlib.Core.Path.{_≡_};
 ghost use Prim.Native.Nat.{_≤_};
-ghost use Rattle.number.specs.Duration.{InAnHour};
+ghost use Rattle.rounding.specs.Duration.{InAnHour};
 ghost use Rattle.parameter.specs.Parameter.{parameterNew, interpolatedValue, parameterSet, tweenStart, tweenMove, tweenUpdate, newRawValue, parameterUpdate};
 use clock::Clocks;
 use clock::WhenToStart;
@@ -172,7 +172,7 @@ impl Parameter {
     {
         let value = self.raw_value;
         let previous = self.previous_raw_value;
-        if time >= number::secs_f64_from_millis(tween.duration) {
+        if time >= rounding::secs_f64_from_millis(tween.duration) {
             ParameterUpdate {
                 parameter: Parameter {
                     state: ParameterState::Idle { value: target },

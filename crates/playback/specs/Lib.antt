@@ -1,4 +1,2 @@
 pub mod PlaybackStateManager
-pub mod PlaybackStateManagerLaws
-pub mod Rows
-pub mod Settled
+pub mod Runs

@@ -1,8 +1,9 @@
 -- playback_state_manager.rs, and which states advance, of sound.rs.
 use mathlib.Core.Bool.{Bool, true, false, cond}
 use lib.Ieee.{Float}
+use Rattle.laws.specs.Float.{whole}
 use Rattle.decibels.specs.declared.decibels.Decibels.{Decibels}
-use Rattle.decibels.specs.Decibels.{whole, silence}
+use Rattle.decibels.specs.Decibels.{silence}
 use Rattle.clock.specs.declared.when_to_start.Clocks.{Clocks}
 use Rattle.tween.specs.declared.start_time.StartTime.{StartTime}
 use Rattle.tween.specs.declared.start_time.StartTimeUpdate.{StartTimeUpdate}

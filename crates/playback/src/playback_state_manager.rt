@@ -2,7 +2,7 @@
 // `mark_as_stopped` are left out.
 ghost use mathlib.Core.Path.{_≡_};
 ghost use Prim.Native.Nat.{_≤_};
-ghost use Rattle.number.specs.Duration.{InAnHour};
+ghost use Rattle.rounding.specs.Duration.{InAnHour};
 ghost use Rattle.playback.specs.PlaybackStateManager.{isAdvancing, isStopped, playbackNew, interpolatedFadeVolume, playbackPause, resumed, playbackResume, unchanged, afterFade, waitingUpdate, stateUpdate, playbackUpdate};
 ghost use Rattle.tween.specs.StartTime.{startTimeUpdate};
 use clock::Clocks;

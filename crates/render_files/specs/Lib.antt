@@ -1,4 +1,1 @@
 pub mod Program
-pub mod PrintLaws
-pub mod ProgramLaws
-pub mod FirstBytes

@@ -70,7 +70,7 @@ fn print_answer(
     ensures length { λ r. ⌜ r ≡ length (printed (now (file .entry)) (now (raw .entry))) ⌝ }
     ensures text { λ _. ⌜ now (text .exit) ≡ begun (printed (now (file .entry)) (now (raw .entry))) (now (text .entry)) ⌝ }
 {
-    let read = scene::read_unmeasured(file, samples);
+    let read = scene_reader::read_unmeasured(file, samples);
     let number = with_broken(read.number, raw.len() % 4 != 0);
     if number != 0 {
         return put_refusal(text, number);

@@ -1,4 +1,1 @@
 pub mod Renderer
-pub mod Channels
-pub mod Lengths
-pub mod RendererLaws

@@ -1,23 +1,24 @@
 -- backend/renderer.rs: a scene's blocks, their chunks, and the channels of a frame. Blocks and chunks are counted from 0 here.
-use mathlib.Core.Bool.{cond}
 use mathlib.Core.List.{List, [], _∷_}
 use Prim.Native.Nat.{ℕ, _+_, _-_, _*_, _/_}
+use lib.Ieee.{Float, binary32, add, div, ofInt}
+use mathlib.Core.Bool.{cond}
 use lib.Dec.{eqb, ltb}
 use lib.IntN.{pos}
-use lib.Ieee.{Float, binary32, add, div, ofInt}
-use Rattle.laws.specs.Loop.{upto}
 use Rattle.laws.specs.Pieces.{pieces}
-use Rattle.clock.specs.ChunkTime.{chunkTime}
 use Rattle.scene.specs.declared.scene.Head.{Head}
 use Rattle.scene.specs.declared.scene.Scene.{Scene}
-use Rattle.track.specs.declared.frame.Frame.{Frame}
-use Rattle.track.specs.Frame.{clamped}
+use Rattle.frame.specs.declared.frame.Frame.{Frame}
+use Rattle.frame.specs.Frame.{clamped}
 use Rattle.track.specs.Mix.{mixedFrame}
 use Rattle.mixer.specs.declared.mixer.Mixer.{Mixer}
-use Rattle.mixer.specs.Mixer.{mixerNew, mixerUpdate}
 use Rattle.mixer.specs.Orders.{mixerOrdered}
+use Rattle.mixer_chunk.specs.ChunkOf.{chunkOf}
+use Rattle.laws.specs.Loop.{upto}
+use Rattle.clock.specs.ChunkTime.{chunkTime}
+use Rattle.mixer.specs.Mixer.{mixerNew, mixerUpdate}
 use Rattle.mixer.specs.Sounds.{soundsPlayed}
-use Rattle.mixer.specs.ChunkOf.{chunkOf}
+use Rattle.chunk.specs.declared.chunk.Chunk.{Chunk}
 
 -- ---- chunks: a block is cut in chunks of `buffer` frames, the last perhaps shorter
 
@@ -49,6 +50,14 @@ blockDone s b m = chunksDone s (chunkCount (s .head)) (mixerOrdered s b m)
 unfoldable pub mixerAt : Scene → ℕ → Mixer
 mixerAt s b = upto (blockDone s) b (mixerNew s)
 
+-- the mixer in chunk k of block b, once updated
+abbrev pub mixerIn : Scene → ℕ → ℕ → Mixer
+mixerIn s b k = inChunk s k (chunksDone s k (mixerOrdered s b (mixerAt s b)))
+
+-- what mixing reads there
+abbrev pub chunkIn : Scene → ℕ → ℕ → Chunk
+chunkIn s b k = chunkOf s (chunkFrames (s .head) k) (mixerIn s b k)
+
 -- ---- samples
 
 -- What channel c of a frame gets: one channel is both sides folded; of more, the first two are left and right, and the others silent.
@@ -73,3 +82,5 @@ blockSamples s samples m = pieces (λ k. chunkSamples s samples k (inChunk s k (
 -- the show
 unfoldable pub rendered : Scene → List Float → List Float
 rendered s samples = pieces (λ b. blockSamples s samples (mixerOrdered s b (mixerAt s b))) (s .head .blocks)
+
+-- ---- the mixer in chunk k of block b

@@ -6,14 +6,14 @@ ghost use Rattle.laws.specs.Pieces.{pieces, putAt};
 ghost use Rattle.gain_table.specs.GainTable.{IsGainTable};
 ghost use Rattle.clock.specs.ChunkTime.{chunkTime};
 ghost use Rattle.accepted.specs.SceneOk.{SceneOk, SamplesOk};
-ghost use Rattle.track.specs.Frame.{frameAt, clamped};
+ghost use Rattle.frame.specs.Frame.{frameAt, clamped};
 ghost use Rattle.mixer.specs.MixerOk.{MixerOk};
 ghost use Rattle.renderer.specs.Renderer.{chunkCount, chunkFrames, channelAt, channelsOf, inChunk, chunkDone, chunksDone, chunkSamples, blockSamples};
+use frame::Frame;
+use frame::frame_at;
 use mixer::Mixer;
 use scene::Head;
 use scene::Scene;
-use track::Frame;
-use track::frame_at;
 
 pub fn chunk_count(head: Head) -> usize
     requires { ⌜ (1 ≤ head .buffer) × (head .buffer ≤ 256) × (head .block ≤ 512) ⌝ }
@@ -138,7 +138,7 @@ fn process_chunk(
     let frames = chunk_frames(head, k);
     let dt = chunk_seconds(head.rate, frames);
     let moved = state.update(scene, dt);
-    let chunk = mixer::chunk_of(scene, moved, frames, table);
+    let chunk = mixer_chunk::chunk_of(scene, moved, frames, table);
     let mut mix = [0.0f32; 512];
     track::process(chunk, table, samples, &mut mix);
     write_frames(out, head.channels, &mix, frames);

@@ -1,5 +1,2 @@
 pub mod Render
-pub mod Run
-pub mod Silence
-pub mod ShowLaws
-pub mod RenderLaws
+pub mod NeverEleven

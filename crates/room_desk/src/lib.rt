@@ -1,6 +1,6 @@
 // Room Desk Two's routine for its users: a scene file with its samples is rendered, or refused by a
 // number.
-mod show;
+mod rendering;
 
-pub use show::render;
-pub use show::room_desk_render;
+pub use rendering::render;
+pub use rendering::room_desk_render;

@@ -1,3 +1,1 @@
 pub mod Scene
-pub mod Answer
-pub mod Laws

@@ -1,13 +1,12 @@
 -- What the tables of an accepted file are (01, "The scene file"): the structs of src/scene.rt, from the numbers of each line.
-use mathlib.Core.Bool.{Bool, false, cond}
-use mathlib.Core.List.{List, [], _∷_, _++_, map}
-use Prim.Native.Nat.{ℕ, _+_, _-_, _*_}
+use mathlib.Core.Bool.{false, cond}
+use mathlib.Core.List.{List, [], _++_, map}
+use Prim.Native.Nat.{ℕ, _-_, _*_}
 use lib.Dec.{eqb}
-use lib.IntN.{ℤ, pos}
+use lib.IntN.{pos}
 use lib.ListN.{length, getD, replicate}
-use lib.Ieee.{Float, binary32, binary64, ofInt, div, minus}
+use lib.Ieee.{binary32, binary64, ofInt, div, minus}
 use Rattle.decibels.specs.declared.decibels.Decibels.{Decibels}
-use Rattle.clock.specs.declared.clock_speed.ClockSpeed.{ClockSpeed}
 use Rattle.clock.specs.declared.clock_speed.ClockSpeed.the-variants.{SecondsPerTick}
 use Rattle.clock.specs.declared.clock_time.ClockTime.{ClockTime as Time}
 use Rattle.tween.specs.declared.tween.Easing.{Easing}
@@ -24,7 +23,7 @@ use Rattle.scene.specs.declared.scene.OrderKind.{OrderKind}
 use Rattle.scene.specs.declared.scene.OrderKind.the-variants.{MainVolume, TrackVolume, SendVolume, RouteVolume, Pause, Resume}
 use Rattle.scene.specs.declared.scene.OrderLine.{OrderLine}
 use Rattle.scene.specs.declared.scene.Scene.{Scene}
-use Rattle.scene_tables.specs.Tables.{plus, natural, head, clocks, tracks, sends, routes, sounds, orders}
+use Rattle.scene_tables.specs.Tables.{natural, head, clocks, tracks, sends, routes, sounds, orders, raised}
 use Rattle.scene_questions.specs.Questions.{Tables, rowsAt, linesAt, field, speedOf}
 
 -- ---- single values
@@ -35,9 +34,9 @@ volumeOf z = record { 0 = div binary32 (ofInt binary32 (minus z 2147483648)) (of
 
 unfoldable pub kindOf : ℕ → OrderKind
 kindOf z =
-    cond (eqb z (plus 0)) MainVolume
-    (cond (eqb z (plus 1)) TrackVolume
-    (cond (eqb z (plus 2)) SendVolume (cond (eqb z (plus 3)) RouteVolume (cond (eqb z (plus 4)) Pause Resume))))
+    cond (eqb z (raised 0)) MainVolume
+    (cond (eqb z (raised 1)) TrackVolume
+    (cond (eqb z (raised 2)) SendVolume (cond (eqb z (raised 3)) RouteVolume (cond (eqb z (raised 4)) Pause Resume))))
 
 -- A clock's tick `when` and fraction `part` / 1000 in f64. Clocks count from 0 here.
 unfoldable pub clockTimeOf : ℕ → ℕ → ℕ → Time
@@ -47,14 +46,14 @@ clockTimeOf clock when part =
 -- With clock 0 the start is a delay of `when` milliseconds, in nanoseconds, and 0 is immediate; else it is that clock's time.
 unfoldable pub startTimeOf : ℕ → ℕ → ℕ → StartTime
 startTimeOf clock when part =
-    cond (eqb clock (plus 0)) (cond (eqb when (plus 0)) Immediate (Delayed (natural when * 1000000)))
+    cond (eqb clock (raised 0)) (cond (eqb when (raised 0)) Immediate (Delayed (natural when * 1000000)))
     (ClockTime (clockTimeOf clock when part))
 
 unfoldable pub easingOf : ℕ → ℕ → Easing
 easingOf easing power =
-    cond (eqb easing (plus 0)) Linear
-    (cond (eqb easing (plus 1)) (InPowi (natural power))
-    (cond (eqb easing (plus 2)) (OutPowi (natural power)) (InOutPowi (natural power))))
+    cond (eqb easing (raised 0)) Linear
+    (cond (eqb easing (raised 1)) (InPowi (natural power))
+    (cond (eqb easing (raised 2)) (OutPowi (natural power)) (InOutPowi (natural power))))
 
 -- ---- lines
 
@@ -70,7 +69,7 @@ headOf row =
     }
 
 unfoldable pub clockOf : List ℕ → ClockLine
-clockOf row = record { speed = speedOf (field row 0) (field row 1); ticking = eqb (field row 2) (plus 1) }
+clockOf row = record { speed = speedOf (field row 0) (field row 1); ticking = eqb (field row 2) (raised 1) }
 
 unfoldable pub trackOf : List ℕ → TrackLine
 trackOf row = record { parent = natural (field row 0); volume = volumeOf (field row 1) }
@@ -98,29 +97,29 @@ orderOf row =
 
 -- ---- places with no line
 
-abbrev pub noDecibels : Decibels
-noDecibels = record { 0 = ofInt binary32 (pos 0) }
+abbrev pub emptyDecibels : Decibels
+emptyDecibels = record { 0 = ofInt binary32 (pos 0) }
 
-unfoldable pub noHead : Head
-noHead = record { rate = 0; channels = 0; buffer = 0; block = 0; blocks = 0; volume = noDecibels }
+unfoldable pub emptyHead : Head
+emptyHead = record { rate = 0; channels = 0; buffer = 0; block = 0; blocks = 0; volume = emptyDecibels }
 
-unfoldable pub noClock : ClockLine
-noClock = record { speed = SecondsPerTick (ofInt binary64 (pos 0)); ticking = false }
+unfoldable pub emptyClockLine : ClockLine
+emptyClockLine = record { speed = SecondsPerTick (ofInt binary64 (pos 0)); ticking = false }
 
-unfoldable pub noTrack : TrackLine
-noTrack = record { parent = 0; volume = noDecibels }
+unfoldable pub emptyTrackLine : TrackLine
+emptyTrackLine = record { parent = 0; volume = emptyDecibels }
 
-unfoldable pub noSend : SendLine
-noSend = record { volume = noDecibels }
+unfoldable pub emptySendLine : SendLine
+emptySendLine = record { volume = emptyDecibels }
 
-unfoldable pub noRoute : RouteLine
-noRoute = record { track = 0; send = 0; volume = noDecibels }
+unfoldable pub emptyRouteLine : RouteLine
+emptyRouteLine = record { track = 0; send = 0; volume = emptyDecibels }
 
-unfoldable pub noSound : SoundLine
-noSound = record { track = 0; first = 0; count = 0 }
+unfoldable pub emptySoundLine : SoundLine
+emptySoundLine = record { track = 0; first = 0; count = 0 }
 
-unfoldable pub noOrder : OrderLine
-noOrder = record { block = 0; kind = MainVolume; index = 0; target = noDecibels; «start_time» = Immediate; millis = 0; easing = Linear }
+unfoldable pub emptyOrderLine : OrderLine
+emptyOrderLine = record { block = 0; kind = MainVolume; index = 0; target = emptyDecibels; «start_time» = Immediate; millis = 0; easing = Linear }
 
 -- ---- the scene
 
@@ -133,34 +132,34 @@ sceneOf ts =
     record {
       head = headOf (getD (rowsAt ts head) 0 []);
       «clock_count» = linesAt ts clocks;
-      clocks = filled 8 noClock clockOf (rowsAt ts clocks);
+      clocks = filled 8 emptyClockLine clockOf (rowsAt ts clocks);
       «track_count» = linesAt ts tracks;
-      tracks = filled 32 noTrack trackOf (rowsAt ts tracks);
+      tracks = filled 32 emptyTrackLine trackOf (rowsAt ts tracks);
       «send_count» = linesAt ts sends;
-      sends = filled 8 noSend sendOf (rowsAt ts sends);
+      sends = filled 8 emptySendLine sendOf (rowsAt ts sends);
       «route_count» = linesAt ts routes;
-      routes = filled 64 noRoute routeOf (rowsAt ts routes);
+      routes = filled 64 emptyRouteLine routeOf (rowsAt ts routes);
       «sound_count» = linesAt ts sounds;
-      sounds = filled 64 noSound soundOf (rowsAt ts sounds);
+      sounds = filled 64 emptySoundLine soundOf (rowsAt ts sounds);
       «order_count» = linesAt ts orders;
-      orders = filled 128 noOrder orderOf (rowsAt ts orders);
+      orders = filled 128 emptyOrderLine orderOf (rowsAt ts orders);
     }
 
 -- the scene of a refusal: no line at all
-unfoldable pub noScene : Scene
-noScene =
+unfoldable pub emptyScene : Scene
+emptyScene =
     record {
-      head = noHead;
+      head = emptyHead;
       «clock_count» = 0;
-      clocks = replicate 8 noClock;
+      clocks = replicate 8 emptyClockLine;
       «track_count» = 0;
-      tracks = replicate 32 noTrack;
+      tracks = replicate 32 emptyTrackLine;
       «send_count» = 0;
-      sends = replicate 8 noSend;
+      sends = replicate 8 emptySendLine;
       «route_count» = 0;
-      routes = replicate 64 noRoute;
+      routes = replicate 64 emptyRouteLine;
       «sound_count» = 0;
-      sounds = replicate 64 noSound;
+      sounds = replicate 64 emptySoundLine;
       «order_count» = 0;
-      orders = replicate 128 noOrder;
+      orders = replicate 128 emptyOrderLine;
     }

@@ -1,11 +1,6 @@
-// A scene: document 01's questions, and the tables of an accepted file. Nothing about sound.
-mod answer;
-mod lines;
+// The tables of an accepted file, as structs. Nothing about sound.
 mod scene;
 
-pub use answer::Answer;
-pub use answer::read_scene;
-pub use answer::read_unmeasured;
 pub use scene::ClockLine;
 pub use scene::Head;
 pub use scene::OrderKind;
@@ -15,3 +10,5 @@ pub use scene::Scene;
 pub use scene::SendLine;
 pub use scene::SoundLine;
 pub use scene::TrackLine;
+pub use scene::no_scene;
+pub use scene::scene_of;

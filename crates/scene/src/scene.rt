@@ -3,14 +3,14 @@ ghost use mathlib.Core.Path.{_≡_};
 ghost use mathlib.Core.Bool.{true};
 ghost use Prim.Native.Nat.{_+_, _-_, _*_, _≤_};
 ghost use lib.ListN.{take, drop};
-ghost use Rattle.scene_questions.specs.Places.{rowsIn, placed, countsFit, Low};
-ghost use Rattle.scene.specs.Scene.{volumeOf, kindOf, clockTimeOf, startTimeOf, easingOf, headOf, clockOf, trackOf, sendOf, routeOf, soundOf, orderOf, noHead, noClock, noTrack, noSend, noRoute, noSound, noOrder, filled, sceneOf, noScene};
-use crate::lines::speed_of;
+ghost use Rattle.scene_questions.specs.Places.{rowsIn, stored, countsFit, Low};
+ghost use Rattle.scene.specs.Scene.{volumeOf, kindOf, clockTimeOf, startTimeOf, easingOf, headOf, clockOf, trackOf, sendOf, routeOf, soundOf, orderOf, emptyHead, emptyClockLine, emptyTrackLine, emptySendLine, emptyRouteLine, emptySoundLine, emptyOrderLine, filled, sceneOf, emptyScene};
 use clock::ClockSpeed;
 use clock::ClockTime;
 use decibels::Decibels;
 use scene_file::at;
 use scene_file::natural_of;
+use scene_rules::speed_of;
 use scene_tables::CLOCKS;
 use scene_tables::HEAD;
 use scene_tables::ORDERS;
@@ -250,7 +250,7 @@ fn order_line_of(values: &[u32], a: usize) -> OrderLine
 }
 
 fn no_head() -> Head
-    ensures { λ r. ⌜ r ≡ noHead ⌝ }
+    ensures { λ r. ⌜ r ≡ emptyHead ⌝ }
 {
     Head {
         rate: 0,
@@ -263,7 +263,7 @@ fn no_head() -> Head
 }
 
 fn no_clock() -> ClockLine
-    ensures { λ r. ⌜ r ≡ noClock ⌝ }
+    ensures { λ r. ⌜ r ≡ emptyClockLine ⌝ }
 {
     ClockLine {
         speed: ClockSpeed::SecondsPerTick(0.0),
@@ -272,7 +272,7 @@ fn no_clock() -> ClockLine
 }
 
 fn no_track() -> TrackLine
-    ensures { λ r. ⌜ r ≡ noTrack ⌝ }
+    ensures { λ r. ⌜ r ≡ emptyTrackLine ⌝ }
 {
     TrackLine {
         parent: 0,
@@ -281,7 +281,7 @@ fn no_track() -> TrackLine
 }
 
 fn no_send() -> SendLine
-    ensures { λ r. ⌜ r ≡ noSend ⌝ }
+    ensures { λ r. ⌜ r ≡ emptySendLine ⌝ }
 {
     SendLine {
         volume: Decibels(0.0),
@@ -289,7 +289,7 @@ fn no_send() -> SendLine
 }
 
 fn no_route() -> RouteLine
-    ensures { λ r. ⌜ r ≡ noRoute ⌝ }
+    ensures { λ r. ⌜ r ≡ emptyRouteLine ⌝ }
 {
     RouteLine {
         track: 0,
@@ -299,7 +299,7 @@ fn no_route() -> RouteLine
 }
 
 fn no_sound() -> SoundLine
-    ensures { λ r. ⌜ r ≡ noSound ⌝ }
+    ensures { λ r. ⌜ r ≡ emptySoundLine ⌝ }
 {
     SoundLine {
         track: 0,
@@ -309,7 +309,7 @@ fn no_sound() -> SoundLine
 }
 
 fn no_order() -> OrderLine
-    ensures { λ r. ⌜ r ≡ noOrder ⌝ }
+    ensures { λ r. ⌜ r ≡ emptyOrderLine ⌝ }
 {
     OrderLine {
         block: 0,
@@ -325,7 +325,7 @@ fn no_order() -> OrderLine
 fn clock_lines(values: &[u32], start: usize, lines: usize) -> [ClockLine; 8]
     requires { ⌜ start + lines * 3 ≤ 100000 ⌝ }
     requires { ⌜ lines ≤ 8 ⌝ }
-    ensures { λ r. ⌜ r ≡ filled 8 noClock clockOf (rowsIn (now (values .entry)) start 3 lines) ⌝ }
+    ensures { λ r. ⌜ r ≡ filled 8 emptyClockLine clockOf (rowsIn (now (values .entry)) start 3 lines) ⌝ }
 {
     let none = no_clock();
     let mut out = [none; 8];
@@ -340,7 +340,7 @@ fn clock_lines(values: &[u32], start: usize, lines: usize) -> [ClockLine; 8]
 fn track_lines(values: &[u32], start: usize, lines: usize) -> [TrackLine; 32]
     requires { ⌜ start + lines * 2 ≤ 100000 ⌝ }
     requires { ⌜ lines ≤ 32 ⌝ }
-    ensures { λ r. ⌜ r ≡ filled 32 noTrack trackOf (rowsIn (now (values .entry)) start 2 lines) ⌝ }
+    ensures { λ r. ⌜ r ≡ filled 32 emptyTrackLine trackOf (rowsIn (now (values .entry)) start 2 lines) ⌝ }
 {
     let none = no_track();
     let mut out = [none; 32];
@@ -355,7 +355,7 @@ fn track_lines(values: &[u32], start: usize, lines: usize) -> [TrackLine; 32]
 fn send_lines(values: &[u32], start: usize, lines: usize) -> [SendLine; 8]
     requires { ⌜ start + lines * 1 ≤ 100000 ⌝ }
     requires { ⌜ lines ≤ 8 ⌝ }
-    ensures { λ r. ⌜ r ≡ filled 8 noSend sendOf (rowsIn (now (values .entry)) start 1 lines) ⌝ }
+    ensures { λ r. ⌜ r ≡ filled 8 emptySendLine sendOf (rowsIn (now (values .entry)) start 1 lines) ⌝ }
 {
     let none = no_send();
     let mut out = [none; 8];
@@ -370,7 +370,7 @@ fn send_lines(values: &[u32], start: usize, lines: usize) -> [SendLine; 8]
 fn route_lines(values: &[u32], start: usize, lines: usize) -> [RouteLine; 64]
     requires { ⌜ start + lines * 3 ≤ 100000 ⌝ }
     requires { ⌜ lines ≤ 64 ⌝ }
-    ensures { λ r. ⌜ r ≡ filled 64 noRoute routeOf (rowsIn (now (values .entry)) start 3 lines) ⌝ }
+    ensures { λ r. ⌜ r ≡ filled 64 emptyRouteLine routeOf (rowsIn (now (values .entry)) start 3 lines) ⌝ }
 {
     let none = no_route();
     let mut out = [none; 64];
@@ -385,7 +385,7 @@ fn route_lines(values: &[u32], start: usize, lines: usize) -> [RouteLine; 64]
 fn sound_lines(values: &[u32], start: usize, lines: usize) -> [SoundLine; 64]
     requires { ⌜ start + lines * 3 ≤ 100000 ⌝ }
     requires { ⌜ lines ≤ 64 ⌝ }
-    ensures { λ r. ⌜ r ≡ filled 64 noSound soundOf (rowsIn (now (values .entry)) start 3 lines) ⌝ }
+    ensures { λ r. ⌜ r ≡ filled 64 emptySoundLine soundOf (rowsIn (now (values .entry)) start 3 lines) ⌝ }
 {
     let none = no_sound();
     let mut out = [none; 64];
@@ -400,7 +400,7 @@ fn sound_lines(values: &[u32], start: usize, lines: usize) -> [SoundLine; 64]
 fn order_lines(values: &[u32], start: usize, lines: usize) -> [OrderLine; 128]
     requires { ⌜ start + lines * 10 ≤ 100000 ⌝ }
     requires { ⌜ lines ≤ 128 ⌝ }
-    ensures { λ r. ⌜ r ≡ filled 128 noOrder orderOf (rowsIn (now (values .entry)) start 10 lines) ⌝ }
+    ensures { λ r. ⌜ r ≡ filled 128 emptyOrderLine orderOf (rowsIn (now (values .entry)) start 10 lines) ⌝ }
 {
     let none = no_order();
     let mut out = [none; 128];
@@ -416,7 +416,7 @@ fn order_lines(values: &[u32], start: usize, lines: usize) -> [OrderLine; 128]
 pub fn scene_of(values: &[u32], starts: &[usize; TABLES], counts: &[usize; TABLES]) -> Scene
     requires { ⌜ Low (now starts) (now counts) ⌝ }
     requires { ⌜ countsFit (now counts) ≡ true ⌝ }
-    ensures { λ r. ⌜ r ≡ sceneOf (placed (now (starts .entry)) (now (counts .entry)) (now (values .entry))) ⌝ }
+    ensures { λ r. ⌜ r ≡ sceneOf (stored (now (starts .entry)) (now (counts .entry)) (now (values .entry))) ⌝ }
 {
     let head = head_of(values, starts[HEAD]);
     let clocks = clock_lines(values, starts[CLOCKS], counts[CLOCKS]);
@@ -444,7 +444,7 @@ pub fn scene_of(values: &[u32], starts: &[usize; TABLES], counts: &[usize; TABLE
 
 // The scene of a refusal.
 pub fn no_scene() -> Scene
-    ensures { λ r. ⌜ r ≡ noScene ⌝ }
+    ensures { λ r. ⌜ r ≡ emptyScene ⌝ }
 {
     let head = no_head();
     let clock = no_clock();

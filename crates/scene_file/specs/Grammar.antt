@@ -1,11 +1,11 @@
 -- The file's grammar (01, "The scene file"; question 2): bytes to lines, lines to tables and fields, a field to a number.
 use mathlib.Core.Bool.{Bool, true, false, cond, not, _&&_}
 use mathlib.Core.List.{List, [], _∷_, map}
-use Prim.Native.Nat.{ℕ, zero, suc, _+_, _-_, _*_}
+use Prim.Native.Nat.{ℕ, _+_, _-_, _*_}
 use lib.Dec.{eqb, leb, ltb}
 use lib.ListN.{length, getD}
-use Rattle.scene_tables.specs.Bytes.{bytesOf, same, all, onto}
-use Rattle.scene_tables.specs.Tables.{Table, tables, width, plus, minus}
+use Rattle.scene_tables.specs.Bytes.{bytesOf, all, onto, sameBytes}
+use Rattle.scene_tables.specs.Tables.{Table, width, raised, raisedMinus}
 
 -- ---- lines and fields
 
@@ -79,7 +79,7 @@ isNumber (b ∷ l) =
 -- its value, raised by 2^31
 unfoldable pub valueOf : List ℕ → ℕ
 valueOf [] = 0
-valueOf (b ∷ l) = cond (eqb b dash) (minus (digitsAfter 0 l)) (plus (digitsAfter 0 (b ∷ l)))
+valueOf (b ∷ l) = cond (eqb b dash) (raisedMinus (digitsAfter 0 l)) (raised (digitsAfter 0 (b ∷ l)))
 
 -- ---- tables
 
@@ -94,7 +94,7 @@ rowOf line = map valueOf (fieldsOf line)
 -- a table's names line, spelled exactly, and then its value lines
 unfoldable pub isBlock : List ℕ → ℕ → List (List ℕ) → Bool
 isBlock names w [] = false
-isBlock names w (line ∷ lines) = same line names && all (isRow w) lines
+isBlock names w (line ∷ lines) = sameBytes line names && all (isRow w) lines
 
 unfoldable pub isTable : Table → List (List ℕ) → Bool
 isTable t block = isBlock (bytesOf (t .names)) (width t) block

@@ -1,19 +1,23 @@
 -- What the leaf functions of src/ give, in the words of Grammar.antt.
 use mathlib.Core.Path.{_≡_}
-use mathlib.Core.Bool.{Bool, true, false, cond, _&&_}
+use mathlib.Core.Bool.{Bool, true, _&&_, cond}
 use mathlib.Core.List.{List, [], _∷_, _++_, map}
-use Prim.Native.Nat.{ℕ, zero, suc, _+_, _≤_}
-use lib.Dec.{eqb, leb}
+use Prim.Native.Nat.{ℕ, suc, _+_, _-_, _≤_}
+use lib.Dec.{leb, eqb}
 use lib.ListN.{length, getD, take, drop}
 use Rattle.scene_file.specs.declared.grammar.TableRead.{TableRead}
 use Rattle.scene_file.specs.declared.grammar.Layout.{Layout}
 use Rattle.scene_file.specs.declared.numbers.Magnitude.{Magnitude}
-use Rattle.scene_file.specs.declared.numbers.Magnitude.the-variants as M
 use Rattle.scene_file.specs.declared.numbers.Number.{Number}
-use Rattle.scene_file.specs.declared.numbers.Number.the-variants as N
 use Rattle.scene_tables.specs.Bytes.{all, joined}
-use Rattle.scene_file.specs.Grammar.{isDigit, isWhole, digitsAfter, isNumber, valueOf, linesOf, fieldsOf, blocksOf, isRow, rowOf, isBlock, rowsOf, areTables, tablesOf}
-use Rattle.scene_tables.specs.Tables.{plus, minus, tables}
+use Rattle.scene_file.specs.Grammar.{isDigit, isWhole, digitsAfter, isNumber, valueOf, linesOf, blocksOf, isRow, rowOf, isBlock, rowsOf, areTables, tablesOf}
+use Rattle.scene_tables.specs.Tables.{tables, raised, raisedMinus}
+use Rattle.scene_file.specs.declared.numbers.Magnitude.the-variants as M
+use Rattle.scene_file.specs.declared.numbers.Number.the-variants as N
+
+-- the rest of a slice from a place on, as code lends it
+abbrev pub tailOf : List ℕ → ℕ → List ℕ
+tailOf l i = take (length l - i) (drop i l)
 
 -- the place of the first such byte, or the length
 unfoldable pub positionOf : ℕ → List ℕ → ℕ
@@ -26,11 +30,11 @@ magnitudeOf l = cond (all isDigit l && leb (digitsAfter 0 l) 2147483648) (M.Is (
 
 -- a whole number, and one after a minus, raised by 2^31
 unfoldable pub positiveOf : List ℕ → Number
-positiveOf l = cond (isWhole l && leb (digitsAfter 0 l) 2147483647) (N.Is (plus (digitsAfter 0 l))) N.Not
+positiveOf l = cond (isWhole l && leb (digitsAfter 0 l) 2147483647) (N.Is (raised (digitsAfter 0 l))) N.Not
 
 unfoldable pub negativeOf : List ℕ → Number
 negativeOf l =
-    cond (isWhole l && leb 1 (digitsAfter 0 l) && leb (digitsAfter 0 l) 2147483648) (N.Is (minus (digitsAfter 0 l))) N.Not
+    cond (isWhole l && leb 1 (digitsAfter 0 l) && leb (digitsAfter 0 l) 2147483648) (N.Is (raisedMinus (digitsAfter 0 l))) N.Not
 
 unfoldable pub numberOf : List ℕ → Number
 numberOf l = cond (isNumber l) (N.Is (valueOf l)) N.Not

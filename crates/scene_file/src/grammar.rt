@@ -3,7 +3,7 @@ ghost use mathlib.Core.Path.{_≡_};
 ghost use mathlib.Core.Bool.{false};
 ghost use Prim.Native.Nat.{_≤_, _+_};
 ghost use lib.ListN.{length};
-ghost use Rattle.scene_file.specs.Laws.Small.{tailOf};
+ghost use Rattle.scene_file.specs.Readings.{tailOf};
 ghost use Rattle.scene_file.specs.Readings.{positionOf, RowRead, RowsRead, BlockRead, LayoutRead};
 use crate::numbers::Number;
 use crate::numbers::find;

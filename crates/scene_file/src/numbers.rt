@@ -5,7 +5,7 @@ ghost use lib.ListN.{length, getD};
 ghost use Rattle.scene_tables.specs.Tables.{natural};
 ghost use Rattle.scene_file.specs.Readings.{positionOf, magnitudeOf, positiveOf, negativeOf, numberOf};
 ghost use Rattle.scene_file.specs.Grammar.{leadingZero};
-ghost use Rattle.scene_tables.specs.Bytes.{same as sameBytes};
+ghost use Rattle.scene_tables.specs.Bytes.{sameBytes as sameBytes};
 use scene_tables::ZERO;
 
 pub enum Magnitude {

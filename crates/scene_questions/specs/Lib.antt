@@ -1,4 +1,2 @@
 pub mod Questions
 pub mod Places
-pub mod Laws
-pub mod SamplesLaws

@@ -27,8 +27,8 @@ placedFrom [] t starts counts values = []
 placedFrom (x ∷ ts) t starts counts values =
     rowsIn values (getD starts t 0) (width x) (getD counts t 0) ∷ placedFrom ts (suc t) starts counts values
 
-unfoldable pub placed : List ℕ → List ℕ → List ℕ → Tables
-placed starts counts values = placedFrom tables 0 starts counts values
+unfoldable pub stored : List ℕ → List ℕ → List ℕ → Tables
+stored starts counts values = placedFrom tables 0 starts counts values
 
 -- how many lines a table has; none beyond the list
 unfoldable pub countAt : List ℕ → ℕ → ℕ

@@ -1,7 +1,7 @@
 -- The ten questions of document 01, "The desk's questions", one definition each, in its order. docs/QUESTIONS.md has 01's words
 -- beside them. The tables of a file are the lists of numbers that Grammar.antt reads; all numbers are raised by 2^31.
-use mathlib.Core.Bool.{Bool, true, false, cond, not, _&&_, _||_}
-use mathlib.Core.List.{List, [], _∷_}
+use mathlib.Core.Bool.{Bool, true, false, cond, not, _&&_}
+use mathlib.Core.List.{List, []}
 use Prim.Native.Nat.{ℕ, zero, suc, _+_, _-_, _*_, _/_, _%_}
 use lib.Dec.{eqb, leb, ltb}
 use lib.IntN.{pos}
@@ -15,7 +15,7 @@ use Rattle.scene_tables.specs.declared.tables.Field.the-variants.{Number, Line,
 use Rattle.scene_tables.specs.declared.tables.LineRule.{LineRule}
 use Rattle.scene_tables.specs.declared.tables.LineRule.the-variants.{Plain, Speed, Order}
 use Rattle.scene_tables.specs.Bytes.{every}
-use Rattle.scene_tables.specs.Tables.{Table, tables, noTable, noField, width, plus, natural, head, clocks, tracks, sends, routes, sounds, orders}
+use Rattle.scene_tables.specs.Tables.{tables, noTable, noField, width, natural, head, tracks, sends, routes, sounds, raised}
 use Rattle.scene_file.specs.Grammar.{lineFeed, linesOf, blocksOf, areTables, tablesOf}
 
 -- ---- the numbers of the tables, by place: lines and fields counted from 0
@@ -91,27 +91,27 @@ speedNumber speed = div binary64 (ofInt binary64 (pos (natural speed))) (ofInt b
 
 unfoldable pub speedOf : ℕ → ℕ → ClockSpeed
 speedOf unit speed =
-    cond (eqb unit (plus 0)) (SecondsPerTick (speedNumber speed))
-    (cond (eqb unit (plus 1)) (TicksPerSecond (speedNumber speed)) (TicksPerMinute (speedNumber speed)))
+    cond (eqb unit (raised 0)) (SecondsPerTick (speedNumber speed))
+    (cond (eqb unit (raised 1)) (TicksPerSecond (speedNumber speed)) (TicksPerMinute (speedNumber speed)))
 
 -- The fields of an order: block kind index volume clock when part millis easing power.
 
 -- Kinds 4 and 5 have the volume 0.
 unfoldable pub volumeFits : ℕ → ℕ → Bool
-volumeFits kind volume = cond (leb (plus 4) kind) (eqb volume (plus 0)) true
+volumeFits kind volume = cond (leb (raised 4) kind) (eqb volume (raised 0)) true
 
 -- With clock 0 the part is 0.
 unfoldable pub partFits : ℕ → ℕ → Bool
-partFits clock part = cond (eqb clock (plus 0)) (eqb part (plus 0)) true
+partFits clock part = cond (eqb clock (raised 0)) (eqb part (raised 0)) true
 
 -- The millis of kinds 0 to 4 are at least 1 where the order waits: it has a clock, or a `when` above 0.
 unfoldable pub millisFit : ℕ → ℕ → ℕ → ℕ → Bool
 millisFit kind clock when millis =
-    cond (leb kind (plus 4)) (cond (eqb clock (plus 0) && leb when (plus 0)) true (leb (plus 1) millis)) true
+    cond (leb kind (raised 4)) (cond (eqb clock (raised 0) && leb when (raised 0)) true (leb (raised 1) millis)) true
 
 -- The power is 0 for easing 0, else at least 1.
 unfoldable pub powerFits : ℕ → ℕ → Bool
-powerFits easing power = cond (eqb easing (plus 0)) (eqb power (plus 0)) (leb (plus 1) power)
+powerFits easing power = cond (eqb easing (raised 0)) (eqb power (raised 0)) (leb (raised 1) power)
 
 -- The block is less than blocks.
 unfoldable pub orderFits : ℕ → List ℕ → Bool
@@ -136,17 +136,17 @@ rangesOk ts = everyLine (λ f own z. inRange f z) (lineInRange (blocks ts)) ts
 unfoldable pub namesLine : (ℕ → ℕ) → Field → ℕ → ℕ → Bool
 namesLine lines (Number a b) own z = true
 namesLine lines (Line k a) own z = leb a z && leb (natural z) (lines k)
-namesLine lines Earlier own z = leb (plus 0) z && leb (natural z) own
+namesLine lines Earlier own z = leb (raised 0) z && leb (natural z) own
 namesLine lines Target own z = true
 
 -- which table an order of kinds 1 to 5 is about
 unfoldable pub targetTable : ℕ → ℕ
-targetTable kind = cond (eqb kind (plus 2)) sends (cond (eqb kind (plus 3)) routes tracks)
+targetTable kind = cond (eqb kind (raised 2)) sends (cond (eqb kind (raised 3)) routes tracks)
 
 -- An order's index is the line number, 0 for kind 0.
 unfoldable pub indexNamesLine : (ℕ → ℕ) → ℕ → ℕ → Bool
 indexNamesLine lines kind index =
-    cond (eqb kind (plus 0)) (eqb index (plus 0)) (leb (plus 1) index && leb (natural index) (lines (targetTable kind)))
+    cond (eqb kind (raised 0)) (eqb index (raised 0)) (leb (raised 1) index && leb (natural index) (lines (targetTable kind)))
 
 unfoldable pub lineNamesLine : (ℕ → ℕ) → LineRule → List ℕ → Bool
 lineNamesLine lines Plain row = true

@@ -11,11 +11,11 @@ use Rattle.scene_tables.specs.declared.tables.LineRule.the-variants.{Pla
 
 -- A number of the file is kept as a natural number, raised by 2^31: `plus 3` stands for 3 and `minus 3` for -3, so that the
 -- numbers from -2147483648 to 2147483647 are 0 to 2^32 - 1 in their order.
-abbrev pub plus : ℕ → ℕ
-plus n = 2147483648 + n
+abbrev pub raised : ℕ → ℕ
+raised n = 2147483648 + n
 
-abbrev pub minus : ℕ → ℕ
-minus n = 2147483648 - n
+abbrev pub raisedMinus : ℕ → ℕ
+raisedMinus n = 2147483648 - n
 
 -- the number that a raised one stands for, where that is not below 0
 abbrev pub natural : ℕ → ℕ
@@ -63,10 +63,10 @@ orders = 6
 
 -- thousandths of a decibel
 abbrev pub volume : Field
-volume = Number (minus 96000) (plus 18000)
+volume = Number (raisedMinus 96000) (raised 18000)
 
 abbrev pub within : ℕ → ℕ → Field
-within a b = Number (plus a) (plus b)
+within a b = Number (raised a) (raised b)
 
 abbrev pub tables : List Table
 tables =
@@ -75,14 +75,14 @@ tables =
     ∷ table "unit speed ticking" 0 8 Speed (within 0 2 ∷ within 1 60000000 ∷ within 0 1 ∷ [])
     ∷ table "parent volume" 0 32 Plain (Earlier ∷ volume ∷ [])
     ∷ table "volume" 0 8 Plain (volume ∷ [])
-    ∷ table "track send volume" 0 64 Plain (Line tracks (plus 1) ∷ Line sends (plus 1) ∷ volume ∷ [])
-    ∷ table "track first count" 0 64 Plain (Line tracks (plus 0) ∷ within 0 2147483647 ∷ within 0 2147483647 ∷ [])
+    ∷ table "track send volume" 0 64 Plain (Line tracks (raised 1) ∷ Line sends (raised 1) ∷ volume ∷ [])
+    ∷ table "track first count" 0 64 Plain (Line tracks (raised 0) ∷ within 0 2147483647 ∷ within 0 2147483647 ∷ [])
     ∷ table "block kind index volume clock when part millis easing power" 0 128 Order
     (within 0 1023
     ∷ within 0 5
     ∷ Target
     ∷ volume
-    ∷ Line clocks (plus 0)
+    ∷ Line clocks (raised 0)
     ∷ within 0 3600000
     ∷ within 0 999
     ∷ within 0 3600000

@@ -3,13 +3,13 @@ use mathlib.Core.List.{List}
 use Prim.Native.Nat.{ℕ, suc, _*_}
 use lib.Ieee.{Float}
 use Rattle.laws.specs.Loop.{downto}
-use Rattle.track.specs.declared.frame.Frame.{Frame}
-use Rattle.track.specs.declared.chunk.Chunk.{Chunk}
-use Rattle.track.specs.Frame.{zeroFrame, added, scaled}
-use Rattle.track.specs.Chunk.{sendLine, amountAt, levelAmplitude}
+use Rattle.frame.specs.declared.frame.Frame.{Frame}
+use Rattle.chunk.specs.declared.chunk.Chunk.{Chunk}
+use Rattle.frame.specs.Frame.{zeroFrame, added, scaled}
+use Rattle.chunk.specs.Chunk.{amountAt, levelAmplitude, sendRow}
 use Rattle.track.specs.Sound.{withSounds}
 use Rattle.track.specs.Sub.{overSubTracks, trackFrame, withTrackSends, onSends}
-use Rattle.track.specs.Send.{sendFrame, withSend}
+use Rattle.track.specs.Send.{sendFrame, addedSend}
 
 -- tracks stand at most so many levels below the mixer
 abbrev pub levels : ℕ
@@ -26,7 +26,7 @@ tracksFrame c samples i = overSubTracks c 0 (λ line x. added x (trackFrame leve
 -- Frame i: the tracks, then the send tracks, then the main track's sounds, and the main volume.
 unfoldable pub mixedFrame : Chunk → List Float → ℕ → Frame
 mixedFrame c samples i =
-    let sends = downto (λ s x. added x (sendFrame (sendLine c s) (c .frames) i (sendInput c samples (suc s) i))) (c .«send_count») (tracksFrame c samples i) in
+    let sends = downto (λ s x. added x (sendFrame (sendRow c s) (c .frames) i (sendInput c samples (suc s) i))) (c .«send_count») (tracksFrame c samples i) in
     scaled (withSounds c samples 0 i sends) (levelAmplitude (c .main) (amountAt i (c .frames)))
 
 -- ---- as steps on the frames of a buffer
@@ -40,7 +40,7 @@ withAllSends c samples = onSends (c .frames) (λ s i a. overSubTracks c 0 (λ li
 
 -- the send tracks' scaled frames added, their inputs given as a buffer
 unfoldable pub withSendTracks : Chunk → List Float → ℕ → Frame → Frame
-withSendTracks c inputs i a = downto (λ s x. withSend (sendLine c s) (c .frames) inputs (s * 256) i x) (c .«send_count») a
+withSendTracks c inputs i a = downto (λ s x. addedSend (sendRow c s) (c .frames) inputs (s * 256) i x) (c .«send_count») a
 
 unfoldable pub mixedSet : Chunk → List Float → ℕ → Frame → Frame
 mixedSet c samples i a = mixedFrame c samples i

@@ -2,11 +2,11 @@
 use mathlib.Core.List.{List}
 use Prim.Native.Nat.{ℕ}
 use Rattle.links.specs.Links.{linksOf}
-use Rattle.track.specs.declared.chunk.Chunk.{Chunk}
-use Rattle.track.specs.Chunk.{trackLine, soundLine}
+use Rattle.chunk.specs.declared.chunk.Chunk.{Chunk}
+use Rattle.chunk.specs.Chunk.{trackRow, soundRow}
 
 unfoldable pub subTrackLinks : Chunk → List ℕ
-subTrackLinks c = linksOf (λ j. trackLine c j .parent) (c .«track_count»)
+subTrackLinks c = linksOf (λ j. trackRow c j .parent) (c .«track_count»)
 
 unfoldable pub soundLinks : Chunk → List ℕ
-soundLinks c = linksOf (λ k. soundLine c k .track) (c .«sound_count»)
+soundLinks c = linksOf (λ k. soundRow c k .track) (c .«sound_count»)

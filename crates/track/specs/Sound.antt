@@ -5,11 +5,11 @@ use Prim.Native.Nat.{ℕ, _+_}
 use lib.Dec.{eqb, ltb}
 use lib.Ieee.{Float}
 use Rattle.laws.specs.Loop.{downto}
-use Rattle.track.specs.declared.frame.Frame.{Frame}
-use Rattle.track.specs.declared.chunk.ChunkSound.{ChunkSound}
-use Rattle.track.specs.declared.chunk.Chunk.{Chunk}
-use Rattle.track.specs.Frame.{zeroFrame, added, frameAt}
-use Rattle.track.specs.Chunk.{soundLine}
+use Rattle.frame.specs.declared.frame.Frame.{Frame}
+use Rattle.chunk.specs.declared.chunk.ChunkSound.{ChunkSound}
+use Rattle.chunk.specs.declared.chunk.Chunk.{Chunk}
+use Rattle.frame.specs.Frame.{zeroFrame, added, frameAt}
+use Rattle.chunk.specs.Chunk.{soundRow}
 
 -- what a sound plays at frame i of the chunk
 unfoldable pub soundFrame : List Float → ChunkSound → ℕ → Frame
@@ -26,4 +26,4 @@ addedZero i a = added a zeroFrame
 -- the sounds of track `line` (counted from 1; 0 is the main track) added onto a sum, latest line first
 unfoldable pub withSounds : Chunk → List Float → ℕ → ℕ → Frame → Frame
 withSounds c samples line i sum =
-    downto (λ k a. cond (eqb (soundLine c k .track) line) (addedSound samples (soundLine c k) i a) a) (c .«sound_count») sum
+    downto (λ k a. cond (eqb (soundRow c k .track) line) (addedSound samples (soundRow c k) i a) a) (c .«sound_count») sum

@@ -6,23 +6,23 @@ use Prim.Native.Nat.{ℕ, zero, suc, _+_, _-_, _/_, _%_}
 use lib.Dec.{eqb, ltb}
 use lib.Ieee.{Float}
 use Rattle.laws.specs.Loop.{upto, downto}
-use Rattle.track.specs.declared.frame.Frame.{Frame}
-use Rattle.track.specs.declared.chunk.Chunk.{Chunk}
-use Rattle.track.specs.declared.chunk.ChunkTrack.{ChunkTrack}
-use Rattle.track.specs.Frame.{zeroFrame, added, scaled, frameAt}
-use Rattle.track.specs.Chunk.{trackLine, routeLine, amountAt, trackAmplitude}
+use Rattle.frame.specs.declared.frame.Frame.{Frame}
+use Rattle.chunk.specs.declared.chunk.Chunk.{Chunk}
+use Rattle.chunk.specs.declared.chunk.ChunkTrack.{ChunkTrack}
+use Rattle.frame.specs.Frame.{zeroFrame, added, scaled, frameAt}
+use Rattle.chunk.specs.Chunk.{amountAt, trackAmplitude, trackRow, routeRow}
 use Rattle.track.specs.Sound.{withSounds}
 
 -- Each track right below `line`, latest line first: its step is taken on the value so far. Track j, counted from 0, is line j + 1.
 unfoldable pub overSubTracks : Chunk → ℕ → (ℕ → Frame → Frame) → Frame → Frame
-overSubTracks c line step a = downto (λ j x. cond (eqb (trackLine c j .parent) line) (step (suc j) x) x) (c .«track_count») a
+overSubTracks c line step a = downto (λ j x. cond (eqb (trackRow c j .parent) line) (step (suc j) x) x) (c .«track_count») a
 
 -- Frame i of track `line`, with d levels of tracks left: the tracks below it, then its sounds, then volume times fade.
 -- A track that does not advance gives zeros, and those below it are not asked.
 unfoldable pub trackFrame : ℕ → Chunk → List Float → ℕ → ℕ → Frame
 trackFrame zero c samples line i = zeroFrame
 trackFrame (suc d) c samples line i =
-    let track = trackLine c (line - 1) in
+    let track = trackRow c (line - 1) in
     cond (track .advancing)
     (scaled (withSounds c samples line i (overSubTracks c line (λ below x. added x (trackFrame d c samples below i)) zeroFrame)) (trackAmplitude track (amountAt i (c .frames))))
     zeroFrame
@@ -30,13 +30,13 @@ trackFrame (suc d) c samples line i =
 -- the routes of a track to send track s (counted from 1): a route adds the track's scaled frame, times its amplitude at the chunk's end
 unfoldable pub withRoutes : Chunk → ℕ → ℕ → Frame → Frame → Frame
 withRoutes c line s frame a =
-    upto (λ r x. cond (eqb (routeLine c r .track) line && eqb (routeLine c r .send) s) (added x (scaled frame (routeLine c r .amplitude))) x) (c .«route_count») a
+    upto (λ r x. cond (eqb (routeRow c r .track) line && eqb (routeRow c r .send) s) (added x (scaled frame (routeRow c r .amplitude))) x) (c .«route_count») a
 
 -- What track `line` and the tracks below it add to send track s at frame i: those below first.
 unfoldable pub withTrackSends : ℕ → Chunk → List Float → ℕ → ℕ → ℕ → Frame → Frame
 withTrackSends zero c samples line s i a = a
 withTrackSends (suc d) c samples line s i a =
-    cond (trackLine c (line - 1) .advancing)
+    cond (trackRow c (line - 1) .advancing)
     (withRoutes c line s (trackFrame (suc d) c samples line i) (overSubTracks c line (λ below x. withTrackSends d c samples below s i x) a))
     a
 
@@ -47,8 +47,8 @@ unfoldable pub trackScaled : ChunkTrack → ℕ → ℕ → Frame → Frame
 trackScaled track n i a = scaled a (trackAmplitude track (amountAt i n))
 
 -- a track's frames added onto a sum
-unfoldable pub withTrack : ℕ → Chunk → List Float → ℕ → ℕ → Frame → Frame
-withTrack d c samples line i a = added a (trackFrame d c samples line i)
+unfoldable pub addedTrack : ℕ → Chunk → List Float → ℕ → ℕ → Frame → Frame
+addedTrack d c samples line i a = added a (trackFrame d c samples line i)
 
 -- The inputs of all send tracks stand in one buffer: send track s, counted from 1, has its frames from (s - 1) * 256 on. So frame k
 -- of it is frame k % 256 of send track k / 256 + 1, where the chunk is that long.

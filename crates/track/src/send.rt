@@ -5,15 +5,15 @@ ghost use mathlib.Core.Bool.{true};
 ghost use Prim.Native.Nat.{_+_, _*_, _≤_};
 ghost use lib.ListN.{length};
 ghost use Rattle.gain_table.specs.GainTable.{IsGainTable};
-ghost use Rattle.track.specs.Frame.{withFrames};
-ghost use Rattle.track.specs.Chunk.{isSteady, LevelInRange, IsParts};
-ghost use Rattle.track.specs.Send.{levelScaled, withSend};
-use crate::chunk::Level;
-use crate::frame::Frame;
-use crate::frame::frame_at;
-use crate::frame::put_frame;
-use crate::frame::scale;
+ghost use Rattle.frame.specs.Frame.{withFrames};
+ghost use Rattle.chunk.specs.Chunk.{isSteady, LevelInRange, IsParts};
+ghost use Rattle.track.specs.Send.{levelScaled, addedSend};
+use chunk::Level;
 use decibels::Amplitude;
+use frame::Frame;
+use frame::frame_at;
+use frame::put_frame;
+use frame::scale;
 
 // Scales each frame by one level.
 pub fn apply_level(
@@ -58,7 +58,7 @@ fn add_steady_send(
     requires { ⌜ 2 * (first + frames) ≤ length (now inputs) ⌝ }
     requires { ⌜ LevelInRange level ⌝ }
     requires { ⌜ isSteady level ≡ true ⌝ }
-    ensures { λ _. ⌜ now (out .exit) ≡ withFrames (withSend level frames (now (inputs .entry)) first) frames (now (out .entry)) ⌝ }
+    ensures { λ _. ⌜ now (out .exit) ≡ withFrames (addedSend level frames (now (inputs .entry)) first) frames (now (out .entry)) ⌝ }
 {
     let factor = level.steady_amplitude(table);
     let mut i = 0;
@@ -85,7 +85,7 @@ pub fn add_send(
     requires { ⌜ 2 * (first + frames) ≤ length (now inputs) ⌝ }
     requires { ⌜ LevelInRange level ⌝ }
     requires { ⌜ IsParts frames (now parts) ⌝ }
-    ensures { λ _. ⌜ now (out .exit) ≡ withFrames (withSend level frames (now (inputs .entry)) first) frames (now (out .entry)) ⌝ }
+    ensures { λ _. ⌜ now (out .exit) ≡ withFrames (addedSend level frames (now (inputs .entry)) first) frames (now (out .entry)) ⌝ }
 {
     if level.is_steady() {
         add_steady_send(out, inputs, first, level, frames, table);

@@ -3,17 +3,17 @@
 ghost use mathlib.Core.Path.{_≡_};
 ghost use Prim.Native.Nat.{_+_, _-_, _*_, _≤_};
 ghost use lib.ListN.{length};
-ghost use Rattle.track.specs.Frame.{withFrames, placed};
-ghost use Rattle.track.specs.Chunk.{ChunkOk};
-ghost use Rattle.track.specs.Flat.{chunkFrom};
+ghost use Rattle.frame.specs.Frame.{withFrames, placed};
+ghost use Rattle.chunk.specs.Chunk.{ChunkOk};
+ghost use Rattle.chunk.specs.Flat.{chunkFrom};
 ghost use Rattle.track.specs.Owners.{soundLinks};
 ghost use Rattle.track.specs.Sound.{addedSound, addedZero, withSounds};
-use crate::chunk::ChunkSound;
-use crate::flat::FRAMES;
-use crate::flat::sound_at;
-use crate::frame::Frame;
-use crate::frame::frame_at;
-use crate::frame::put_frame;
+use chunk::ChunkSound;
+use chunk::FRAMES;
+use chunk::sound_at;
+use frame::Frame;
+use frame::frame_at;
+use frame::put_frame;
 
 // Adds frames that the sound still has.
 fn add_played(to: &mut [f32], samples: &[f32], sound: ChunkSound, frames: usize)

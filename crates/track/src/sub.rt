@@ -4,24 +4,24 @@ ghost use mathlib.Core.Bool.{true};
 ghost use Prim.Native.Nat.{_+_, _*_, _≤_, _<_};
 ghost use lib.ListN.{length};
 ghost use Rattle.gain_table.specs.GainTable.{IsGainTable};
-ghost use Rattle.track.specs.Frame.{withFrames};
-ghost use Rattle.track.specs.Chunk.{ChunkOk, isSteady, LevelInRange, IsParts};
-ghost use Rattle.track.specs.Flat.{chunkFrom};
+ghost use Rattle.frame.specs.Frame.{withFrames};
+ghost use Rattle.chunk.specs.Chunk.{ChunkOk, isSteady, LevelInRange, IsParts};
+ghost use Rattle.chunk.specs.Flat.{chunkFrom};
 ghost use Rattle.track.specs.Owners.{subTrackLinks, soundLinks};
-ghost use Rattle.track.specs.Running.{AllRunning};
-ghost use Rattle.track.specs.Sub.{trackScaled, withTrack, withRoutesFrom, withSendsOf, sendFrames};
-use crate::chunk::ChunkTrack;
-use crate::flat::FRAMES;
-use crate::flat::ROUTE_COUNT;
-use crate::flat::route_at;
-use crate::flat::track_at;
-use crate::frame::add_frames;
-use crate::frame::add_scaled;
-use crate::frame::frame_at;
-use crate::frame::put_frame;
-use crate::frame::scale;
+ghost use Rattle.frame.specs.Running.{AllRunning};
+ghost use Rattle.track.specs.Sub.{trackScaled, addedTrack, withRoutesFrom, withSendsOf, sendFrames};
 use crate::sound::add_sounds;
+use chunk::ChunkTrack;
+use chunk::FRAMES;
+use chunk::ROUTE_COUNT;
+use chunk::route_at;
+use chunk::track_at;
 use decibels::Amplitude;
+use frame::add_frames;
+use frame::add_scaled;
+use frame::frame_at;
+use frame::put_frame;
+use frame::scale;
 
 // The most frames of a chunk. The input of send track s, counted from 1, has its frames from
 // (s - 1) * WIDTH on.
@@ -163,7 +163,7 @@ pub fn process(
     requires { ⌜ 2 * chunkFrom (now places) (now values) .frames ≤ length (now to) ⌝ }
     requires { ⌜ length (now sends) ≡ 2 * sendFrames ⌝ }
     requires { ⌜ AllRunning (chunkFrom (now places) (now values) .frames) (now to) ⌝ }
-    ensures frames { λ _. ⌜ now (to .exit) ≡ withFrames (withTrack depth (chunkFrom (now (places .entry)) (now (values .entry))) (now (samples .entry)) line) (chunkFrom (now (places .entry)) (now (values .entry)) .frames) (now (to .entry)) ⌝ }
+    ensures frames { λ _. ⌜ now (to .exit) ≡ withFrames (addedTrack depth (chunkFrom (now (places .entry)) (now (values .entry))) (now (samples .entry)) line) (chunkFrom (now (places .entry)) (now (values .entry)) .frames) (now (to .entry)) ⌝ }
     ensures sends { λ _. ⌜ now (sends .exit) ≡ withFrames (withSendsOf depth (chunkFrom (now (places .entry)) (now (values .entry))) (now (samples .entry)) line) sendFrames (now (sends .entry)) ⌝ }
 {
     let frames = places[FRAMES];

@@ -1,9 +1,3 @@
 pub mod Tween
 pub mod Tweenable
 pub mod StartTime
-pub mod TweenLaws
-pub mod TweenableLaws
-pub mod StartTimeLaws
-pub mod ChunkTimeLaws
-pub mod Rows
-pub mod Settled

@@ -1,10 +1,9 @@
 -- start_time.rs.
 use mathlib.Core.Bool.{Bool, true, false, cond}
-use Prim.Native.Nat.{ℕ, _-_}
+use Prim.Native.Nat.{ℕ, _-_, _<_}
 use lib.Dec.{eqb}
 use lib.Ieee.{Float}
-use Rattle.number.specs.Duration.{nanosFromSecs}
-use Rattle.clock.specs.declared.clock_time.ClockTime as time
+use Rattle.rounding.specs.Duration.{nanosFromSecs}
 use Rattle.clock.specs.declared.when_to_start.Clocks.{Clocks}
 use Rattle.clock.specs.declared.when_to_start.WhenToStart.{WhenToStart}
 use Rattle.clock.specs.declared.when_to_start.WhenToStart.the-variants.{Now, Later, Never}
@@ -12,6 +11,7 @@ use Rattle.clock.specs.WhenToStart.{whenToStart}
 use Rattle.tween.specs.declared.start_time.StartTime.{StartTime}
 use Rattle.tween.specs.declared.start_time.StartTime.the-variants.{Immediate, Delayed, ClockTime}
 use Rattle.tween.specs.declared.start_time.StartTimeUpdate.{StartTimeUpdate}
+use Rattle.clock.specs.declared.clock_time.ClockTime as time
 
 unfoldable pub isImmediate : StartTime → Bool
 isImmediate Immediate = true
@@ -35,3 +35,9 @@ unfoldable pub startTimeUpdate : StartTime → Float → Clocks → StartTimeUpd
 startTimeUpdate Immediate dt clocks = record { «start_time» = Immediate; «will_never_start» = false }
 startTimeUpdate (Delayed remaining) dt clocks = record { «start_time» = afterDelay (delayLeft remaining dt); «will_never_start» = false }
 startTimeUpdate (ClockTime t) dt clocks = atClockTime t (whenToStart clocks t)
+
+-- the clock that it names, if it names one, is one of the first `count`
+abbrev pub ClockThere : ℕ → StartTime → Type 0
+ClockThere count Immediate = Unit {0}
+ClockThere count (Delayed remaining) = Unit {0}
+ClockThere count (ClockTime t) = t .clock < count

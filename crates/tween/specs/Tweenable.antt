@@ -1,7 +1,7 @@
 -- tween/tweenable.rs: `Tweenable::interpolate`, of decibels.
 use lib.Ieee.{Float, binary32}
 use Rattle.laws.specs.Interpolate.{interpolate}
-use Rattle.number.specs.Narrow.{narrowed}
+use Rattle.rounding.specs.Narrow.{narrowed}
 use Rattle.decibels.specs.declared.decibels.Decibels.{Decibels}
 
 -- a + (b - a) * amount in f32, the amount rounded to f32 first

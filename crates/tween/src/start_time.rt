@@ -1,7 +1,7 @@
 // kira's start_time.rs.
 ghost use mathlib.Core.Path.{_≡_};
 ghost use Prim.Native.Nat.{_≤_};
-ghost use Rattle.number.specs.Duration.{InAnHour};
+ghost use Rattle.rounding.specs.Duration.{InAnHour};
 ghost use Rattle.tween.specs.StartTime.{isImmediate, delayLeft, startTimeUpdate};
 use clock::ClockTime;
 use clock::Clocks;
@@ -83,7 +83,7 @@ pub fn delay_left(remaining: u64, dt: f64) -> u64
     requires { ⌜ InAnHour dt ⌝ }
     ensures { λ r. ⌜ r ≡ delayLeft remaining dt ⌝ }
 {
-    let passed = number::nanos_from_secs_f64(dt);
+    let passed = rounding::nanos_from_secs_f64(dt);
     if passed < remaining {
         remaining - passed
     } else {

@@ -69,6 +69,6 @@ impl Tween {
         ensures { λ r. ⌜ r ≡ tweenValue self time ⌝ }
     {
         let easing = self.easing;
-        easing.apply(time / number::secs_f64_from_millis(self.duration))
+        easing.apply(time / rounding::secs_f64_from_millis(self.duration))
     }
 }

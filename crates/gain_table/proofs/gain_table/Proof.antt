@@ -6,7 +6,7 @@ use mathlib.Core.List.{List}
 use Prim.Native.Nat.{ℕ, suc, _<_}
 use lib.Dec.{T}
 use lib.ListN.{length, getD}
-use Rattle.laws.specs.Table.{both, every, at, both-left, both-right}
+use Rattle.laws.proofs.laws.Table.{both, every, at, both-left, both-right}
 use Rattle.gain_table.specs.GainTable.{atMost, IsGainTable, entries}
 use Rattle.gain_table.proofs.gain_table.Statement.{statement}
 use Rattle.gain_table.proofs.gain_table.Tie as tie

@@ -6,5 +6,5 @@ use decibels::Decibels;
 pub fn interpolate(a: Decibels, b: Decibels, amount: f64) -> Decibels
     ensures { λ r. ⌜ r ≡ interpolated a b amount ⌝ }
 {
-    Decibels(a.0 + (b.0 - a.0) * number::f64_to_f32(amount))
+    Decibels(a.0 + (b.0 - a.0) * rounding::f64_to_f32(amount))
 }

@@ -6,15 +6,15 @@ use native.Mathlib.Nat.{le-of-eq}
 use native.Mathlib.Numerals.{add-one}
 use mathlib.Core.Bool.{true, not}
 use lib.Ieee.{Float, binary64, sub, le, ofBits, ofInt, toUnsigned}
-use Rattle.clock.specs.ClockSpeed.{whole}
-use Rattle.clock.specs.Clock.{taken}
-use Rattle.clock.specs.Ticks.{Timer, span, one, test-is, tick-fits, less-kept, less-timer, less-ones, taken-again, taken-done}
+use Rattle.laws.specs.Float.{whole}
+use Rattle.clock.specs.Clock.{taken, Timer, span, oneSpan}
+use Rattle.clock.proofs.laws.Ticks.{test-is, tick-fits, less-kept, less-timer, less-ones, taken-again, taken-done}
 use Rattle.clock.proofs.clock.take_ticks.Statement.{statement}
 use Rattle.clock.proofs.clock.take_ticks.Tie as tie
 
 abbrev Inv-loop : tie.InvT-loop
 Inv-loop before timer ticks₀ tick-timer₀ ticks tick-timer =
-    Timer tick-timer × (ticks * one + span tick-timer ≡ before * one + span timer) × (taken ticks tick-timer ≡ taken before timer)
+    Timer tick-timer × (ticks * oneSpan + span tick-timer ≡ before * oneSpan + span timer) × (taken ticks tick-timer ≡ taken before timer)
 
 abbrev μ-loop : tie.MeasureT-loop
 μ-loop before timer ticks₀ tick-timer₀ ticks tick-timer = toUnsigned 64 tick-timer
@@ -41,7 +41,7 @@ turned : (ticks : ℕ) (x : Float) (before : ℕ) (timer : Float) → le (whole 
     → Inv-loop before timer before timer (ticks + 1) (sub binary64 x (whole 1))
 turned ticks x before timer h (t, e, k) =
     subst (λ (n : ℕ). Inv-loop before timer before timer n (sub binary64 x (whole 1))) (sym (add-one ticks))
-    (less-timer x t h, less-kept ticks x t h (suc ticks * one + span (sub binary64 x (whole 1))) refl ∙ e, sym (taken-again ticks x t h) ∙ k)
+    (less-timer x t h, less-kept ticks x t h (suc ticks * oneSpan + span (sub binary64 x (whole 1))) refl ∙ e, sym (taken-again ticks x t h) ∙ k)
 
 loop-again : tie.Need-loop-again Inv-loop μ-loop
 unfolding ofBits ofInt

@@ -12,10 +12,11 @@ use lib.Dec.{T, le→leb, lit≤}
 use lib.ListN.{getD}
 use lib.Ieee.{Float, binary64, add, sub, mul, eq, ofInt, ofBits, inFloat}
 use borrow.Author.Needs.{needs}
-use Rattle.laws.specs.Choice.{cond-true, cond-false, false-T}
+use Rattle.laws.specs.Float.{whole}
+use Rattle.laws.proofs.laws.Choice.{cond-true, cond-false, false-T}
 use Rattle.gain_table.specs.GainTable.{entry, entries, IsGainTable}
-use Rattle.gain_table.specs.GainTable.Laws.{table-entry, entry-below}
-use Rattle.decibels.specs.Decibels.{whole, lineAt}
+use Rattle.gain_table.proofs.laws.GainTable.{table-entry, entry-below}
+use Rattle.decibels.specs.Decibels.{lineAt}
 use Rattle.decibels.proofs.decibels.line.Statement.{statement}
 use Rattle.decibels.proofs.decibels.line.Tie as tie
 

@@ -8,7 +8,7 @@ use native.Mathlib.Omega.{arith}
 use lib.Ieee.{binary64, fits, isNan, le, mul, neg}
 use lib.Ieee.Fits.{and-i, and-l, fits-widens}
 use Rattle.decibels.specs.Decibels.{admitted, limit}
-use Rattle.decibels.specs.Decibels.Position.{sixteen, steps, Below, From, below, from, below-wide, from-wide, below-cut, from-cut, below-few, from-few, castable, negated, in-float, at-entry, between-entries, above-zero}
+use Rattle.decibels.proofs.laws.Position.{sixteen, steps, Below, From, below, from, below-wide, from-wide, below-cut, from-cut, below-few, from-few, castable, negated, in-float, at-entry, between-entries, above-zero}
 use Rattle.decibels.proofs.decibels.position_of.Statement.{statement}
 use Rattle.decibels.proofs.decibels.position_of.Tie as tie
 

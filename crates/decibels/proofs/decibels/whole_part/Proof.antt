@@ -1,9 +1,9 @@
 -- `whole_part` meets its contract: below 1 by its test, and from 1 on by the law `whole-of-bits`. Assumes nothing.
 use native.Mathlib.Omega.{arith}
 use lib.Ieee.{binary64, ofBits, toBits, ofInt}
-use Rattle.laws.specs.Choice.{true-T}
-use Rattle.decibels.specs.Decibels.WholePart.{Cuttable, cuttable-no-nan, Whole, below-one, whole-of-bits}
 use borrow.Author.Needs.{needs}
+use Rattle.laws.proofs.laws.Choice.{true-T}
+use Rattle.decibels.proofs.laws.WholePart.{Cuttable, cuttable-no-nan, Whole, below-one, whole-of-bits}
 use Rattle.decibels.proofs.decibels.whole_part.Statement.{statement}
 use Rattle.decibels.proofs.decibels.whole_part.Tie as tie
 

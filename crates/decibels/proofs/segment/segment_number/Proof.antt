@@ -5,8 +5,9 @@ use Prim.Native.Nat.{ℕ, _≤_, _<_}
 use lib.Dec.{ltb}
 use lib.Ieee.{Float, eq, le, neg, ofInt, ofBits}
 use borrow.Author.Tests.{lt-ltb, le-ltb}
-use Rattle.laws.specs.Choice.{cond-true, cond-false, false-T}
-use Rattle.decibels.specs.Decibels.{whole, silence, entryBelow}
+use Rattle.laws.specs.Float.{whole}
+use Rattle.laws.proofs.laws.Choice.{cond-true, cond-false, false-T}
+use Rattle.decibels.specs.Decibels.{silence, entryBelow}
 use Rattle.decibels.specs.Segment.{segmentOf}
 use Rattle.decibels.proofs.segment.segment_number.Statement.{statement}
 use Rattle.decibels.proofs.segment.segment_number.Tie as tie

@@ -10,12 +10,12 @@ use lib.Dec.{T, le→leb, lit≤}
 use lib.ListN.{getD}
 use lib.Ieee.{Float, binary64, sub, inFloat}
 use borrow.Author.Needs.{needs}
+use Rattle.laws.specs.Float.{whole}
 use Rattle.gain_table.specs.GainTable.{entry, entries, IsGainTable}
-use Rattle.gain_table.specs.GainTable.Laws.{table-entry, entry-below}
+use Rattle.gain_table.proofs.laws.GainTable.{table-entry, entry-below}
 use Rattle.decibels.specs.declared.segment.Segment.{Segment}
-use Rattle.decibels.specs.Decibels.{whole}
 use Rattle.decibels.specs.Segment.{stepsAt, decibelsAt, segment}
-use Rattle.decibels.specs.SegmentLaws.{segment-few}
+use Rattle.decibels.proofs.laws.Segment.{segment-few}
 use Rattle.decibels.proofs.segment.segment_of.Statement.{statement}
 use Rattle.decibels.proofs.segment.segment_of.Tie as tie
 

@@ -1,6 +1,6 @@
 -- `f32_bits` meets its contract. Assumes nothing.
 use borrow.Author.Needs.{needs}
-use Rattle.float_bits.proofs.BitsLaws.{nan-to-bits, no-nan}
+use Rattle.float_bits.proofs.laws.Bits.{nan-to-bits, no-nan}
 use Rattle.float_bits.proofs.bits.f32_bits.Statement.{statement}
 use Rattle.float_bits.proofs.bits.f32_bits.Tie as tie
 

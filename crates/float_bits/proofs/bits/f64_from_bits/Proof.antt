@@ -2,7 +2,7 @@
 use mathlib.Core.Path.{sym, _∙_}
 use lib.Ieee.{binary64}
 use borrow.Author.Needs.{needs}
-use Rattle.float_bits.proofs.BitsLaws.{nan-from-bits, no-nan-test}
+use Rattle.float_bits.proofs.laws.Bits.{nan-from-bits, no-nan-test}
 use Rattle.float_bits.proofs.bits.f64_from_bits.Statement.{statement}
 use Rattle.float_bits.proofs.bits.f64_from_bits.Tie as tie
 

@@ -1,7 +1,7 @@
 -- `word` meets its contract. Assumes nothing.
 use native.Mathlib.Omega.{arith}
-use Rattle.float_bits.specs.Bits.{wordFrom}
 use borrow.Author.Needs.{needs}
+use Rattle.float_bits.specs.Bits.{wordFrom}
 use Rattle.float_bits.proofs.bytes.word.Statement.{statement}
 use Rattle.float_bits.proofs.bytes.word.Tie as tie
 

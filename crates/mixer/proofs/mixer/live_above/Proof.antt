@@ -1,7 +1,7 @@
 -- `mixer::live_above` meets its contract: the test is the definition's. Assumes nothing.
 use mathlib.Core.Path.{sym}
 use borrow.Author.Tests.{eq-eqb, ne-eqb}
-use Rattle.laws.specs.Choice.{cond-true, cond-false}
+use Rattle.laws.proofs.laws.Choice.{cond-true, cond-false}
 use Rattle.mixer.proofs.mixer.live_above.Statement.{statement}
 use Rattle.mixer.proofs.mixer.live_above.Tie as tie
 

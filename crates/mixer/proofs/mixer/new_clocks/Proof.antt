@@ -7,20 +7,21 @@ use native.Mathlib.Numerals.{add-one-le}
 use lib.Dec.{lit<}
 use lib.ListN.{getD, replicate}
 use lib.Ieee.{ofInt, ofBits}
-use Rattle.laws.specs.Loop.{changed, changed-zero}
+use Rattle.laws.specs.Loop.{changed}
+use Rattle.laws.proofs.laws.Loop.{changed-zero}
 use Rattle.clock.specs.declared.clock.Clock.{Clock}
 use Rattle.clock.specs.declared.when_to_start.Clocks.{Clocks}
 use Rattle.clock.specs.Clock.{newClock}
-use Rattle.clock.specs.WhenToStart.{noClock}
 use Rattle.scene.specs.declared.scene.ClockLine.{ClockLine}
-use Rattle.accepted.specs.Lines.{absentClock}
+use Rattle.clock.specs.WhenToStart.{absentClock}
 use Rattle.mixer.specs.Mixer.{emptyClock, clocksNew}
-use Rattle.mixer.proofs.Turns.{scaled, next-fits, falls, turned, ended}
+use Rattle.mixer.proofs.laws.Turns.{scaled, next-fits, falls, turned, ended}
 use Rattle.mixer.proofs.mixer.new_clocks.Statement.{statement}
+use Rattle.accepted.specs.Lines.{absentClockLine}
 use Rattle.mixer.proofs.mixer.new_clocks.Tie as tie
 
 abbrev made : List ClockLine → ℕ → Clock → Clock
-made lines i x = newClock (getD lines i absentClock .speed) (getD lines i absentClock .ticking)
+made lines i x = newClock (getD lines i absentClockLine .speed) (getD lines i absentClockLine .ticking)
 
 abbrev Inv-loop : tie.InvT-loop
 Inv-loop lines clocks₀ count i₀ clocks i = (i ≤ count) × (count ≤ 8) × (clocks ≡ changed (made lines) i (replicate 8 emptyClock))
@@ -62,7 +63,7 @@ loop-again c =
     let start = l .before .before .before in (
       add-one-le (c .before .before .loop-test .taken),
       l .loop .inv .1,
-      turned (made (start .args .scene .clocks)) (replicate 8 emptyClock) noClock (l .loop .i) (c .new2 .ensures) (l .loop .inv .2),
+      turned (made (start .args .scene .clocks)) (replicate 8 emptyClock) absentClock (l .loop .i) (c .new2 .ensures) (l .loop .inv .2),
     )
 
 returns : tie.Need-returns Inv-loop μ-loop

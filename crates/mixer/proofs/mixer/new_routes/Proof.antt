@@ -7,18 +7,19 @@ use native.Mathlib.Numerals.{add-one-le}
 use lib.Dec.{lit<}
 use lib.ListN.{getD, replicate}
 use lib.Ieee.{ofInt, ofBits}
-use Rattle.laws.specs.Loop.{changed, changed-zero}
+use Rattle.laws.specs.Loop.{changed}
+use Rattle.laws.proofs.laws.Loop.{changed-zero}
 use Rattle.parameter.specs.declared.parameter.Parameter.{Parameter}
 use Rattle.parameter.specs.Parameter.{parameterNew}
 use Rattle.scene.specs.declared.scene.RouteLine.{RouteLine}
-use Rattle.accepted.specs.Lines.{absentRoute}
 use Rattle.mixer.specs.Mixer.{emptyParameter, absentParameter, routesNew}
-use Rattle.mixer.proofs.Turns.{scaled, next-fits, falls, turned, ended}
+use Rattle.mixer.proofs.laws.Turns.{scaled, next-fits, falls, turned, ended}
 use Rattle.mixer.proofs.mixer.new_routes.Statement.{statement}
+use Rattle.accepted.specs.Lines.{absentRouteLine}
 use Rattle.mixer.proofs.mixer.new_routes.Tie as tie
 
 abbrev made : List RouteLine → ℕ → Parameter → Parameter
-made lines r x = parameterNew (getD lines r absentRoute .volume)
+made lines r x = parameterNew (getD lines r absentRouteLine .volume)
 
 abbrev Inv-loop : tie.InvT-loop
 Inv-loop lines routes₀ count r₀ routes r = (r ≤ count) × (count ≤ 64) × (routes ≡ changed (made lines) r (replicate 64 emptyParameter))

@@ -7,18 +7,19 @@ use native.Mathlib.Numerals.{add-one-le}
 use lib.Dec.{lit<}
 use lib.ListN.{getD, replicate}
 use lib.Ieee.{ofInt, ofBits}
-use Rattle.laws.specs.Loop.{changed, changed-zero}
+use Rattle.laws.specs.Loop.{changed}
+use Rattle.laws.proofs.laws.Loop.{changed-zero}
 use Rattle.parameter.specs.declared.parameter.Parameter.{Parameter}
 use Rattle.parameter.specs.Parameter.{parameterNew}
 use Rattle.scene.specs.declared.scene.SendLine.{SendLine}
-use Rattle.accepted.specs.Lines.{absentSend}
 use Rattle.mixer.specs.Mixer.{emptyParameter, absentParameter, sendsNew}
-use Rattle.mixer.proofs.Turns.{scaled, next-fits, falls, turned, ended}
+use Rattle.mixer.proofs.laws.Turns.{scaled, next-fits, falls, turned, ended}
 use Rattle.mixer.proofs.mixer.new_sends.Statement.{statement}
+use Rattle.accepted.specs.Lines.{absentSendLine}
 use Rattle.mixer.proofs.mixer.new_sends.Tie as tie
 
 abbrev made : List SendLine → ℕ → Parameter → Parameter
-made lines i x = parameterNew (getD lines i absentSend .volume)
+made lines i x = parameterNew (getD lines i absentSendLine .volume)
 
 abbrev Inv-loop : tie.InvT-loop
 Inv-loop lines sends₀ count i₀ sends i = (i ≤ count) × (count ≤ 8) × (sends ≡ changed (made lines) i (replicate 8 emptyParameter))

@@ -7,18 +7,19 @@ use native.Mathlib.Numerals.{add-one-le}
 use lib.Dec.{lit<}
 use lib.ListN.{getD, replicate}
 use lib.Ieee.{ofInt, ofBits}
-use Rattle.laws.specs.Loop.{changed, changed-zero}
+use Rattle.laws.specs.Loop.{changed}
+use Rattle.laws.proofs.laws.Loop.{changed-zero}
 use Rattle.scene.specs.declared.scene.TrackLine.{TrackLine}
-use Rattle.accepted.specs.Lines.{absentTrack}
+use Rattle.mixer.specs.Mixer.{absentTrack, emptyTrack, tracksNew}
 use Rattle.mixer.specs.declared.sub.Track.{Track}
 use Rattle.mixer.specs.Sub.{trackNew}
-use Rattle.mixer.specs.Mixer.{emptyTrack, absentState, tracksNew}
-use Rattle.mixer.proofs.Turns.{scaled, next-fits, falls, turned, ended}
+use Rattle.mixer.proofs.laws.Turns.{scaled, next-fits, falls, turned, ended}
 use Rattle.mixer.proofs.mixer.new_tracks.Statement.{statement}
+use Rattle.accepted.specs.Lines.{absentTrackLine}
 use Rattle.mixer.proofs.mixer.new_tracks.Tie as tie
 
 abbrev made : List TrackLine → ℕ → Track → Track
-made lines t x = trackNew (getD lines t absentTrack .volume)
+made lines t x = trackNew (getD lines t absentTrackLine .volume)
 
 abbrev Inv-loop : tie.InvT-loop
 Inv-loop lines tracks₀ count t₀ tracks t = (t ≤ count) × (count ≤ 32) × (tracks ≡ changed (made lines) t (replicate 32 emptyTrack))
@@ -60,7 +61,7 @@ loop-again c =
     let start = l .before .before .before in (
       add-one-le (c .before .before .before .loop-test .taken),
       l .loop .inv .1,
-      turned (made (start .args .scene .tracks)) (replicate 32 emptyTrack) absentState (l .loop .t) (c .new2 .ensures) (l .loop .inv .2),
+      turned (made (start .args .scene .tracks)) (replicate 32 emptyTrack) absentTrack (l .loop .t) (c .new2 .ensures) (l .loop .inv .2),
     )
 
 returns : tie.Need-returns Inv-loop μ-loop

@@ -4,9 +4,10 @@ use Prim.Native.Nat.{_-_, _≤_, zero-le}
 use native.Mathlib.Nat.{le-refl, lt-of-lt-of-le}
 use native.Mathlib.Numerals.{add-one-le}
 use lib.Dec.{lit<}
-use Rattle.laws.specs.Loop.{changed, changed-zero}
+use Rattle.laws.specs.Loop.{changed}
+use Rattle.laws.proofs.laws.Loop.{changed-zero}
 use Rattle.mixer.specs.Mixer.{absentParameter, routeUpdate, routesUpdate}
-use Rattle.mixer.proofs.Turns.{scaled, next-fits, falls, line-within, turned, ended}
+use Rattle.mixer.proofs.laws.Turns.{scaled, next-fits, falls, line-within, turned, ended}
 use Rattle.mixer.proofs.mixer.update_routes.Statement.{statement}
 use Rattle.mixer.proofs.mixer.update_routes.Tie as tie
 

@@ -5,13 +5,14 @@ use native.Mathlib.Nat.{lt-of-lt-of-le}
 use native.Mathlib.Numerals.{add-one-le}
 use lib.Dec.{lit<}
 use lib.Ieee.{Float}
-use Rattle.laws.specs.Loop.{changed, changed-zero}
+use Rattle.laws.specs.Loop.{changed}
+use Rattle.laws.proofs.laws.Loop.{changed-zero}
 use Rattle.clock.specs.declared.when_to_start.Clocks.{Clocks}
 use Rattle.parameter.specs.declared.parameter.Parameter.{Parameter}
 use Rattle.parameter.specs.declared.parameter.ParameterUpdate.{ParameterUpdate}
 use Rattle.parameter.specs.Parameter.{parameterUpdate}
 use Rattle.mixer.specs.Mixer.{absentParameter, sendsUpdate}
-use Rattle.mixer.proofs.Turns.{scaled, next-fits, falls, turned, ended}
+use Rattle.mixer.proofs.laws.Turns.{scaled, next-fits, falls, turned, ended}
 use Rattle.mixer.proofs.mixer.update_sends.Statement.{statement}
 use Rattle.mixer.proofs.mixer.update_sends.Tie as tie
 

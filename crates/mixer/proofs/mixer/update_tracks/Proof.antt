@@ -1,24 +1,21 @@
 -- `mixer::update_tracks` meets its contract. The invariant: the tracks below t have moved, in line order. Assumes nothing.
 use mathlib.Core.Path.{_≡_, sym, ap, _∙_}
 use mathlib.Core.Bool.{Bool}
-use Prim.Native.Nat.{ℕ, _-_, _≤_, _<_, zero-le}
+use Prim.Native.Nat.{ℕ, _-_, _≤_, zero-le}
 use native.Mathlib.Nat.{le-refl, le-trans, le-of-lt, lt-of-lt-of-le}
 use native.Mathlib.Numerals.{add-one-le}
 use borrow.Author.Needs.{needs}
 use lib.Dec.{lit<}
 use lib.ListN.{getD, set}
-use Rattle.laws.specs.Loop.{upto, upto-zero, upto-turn}
-use Rattle.accepted.specs.Lines.{absentTrack}
+use Rattle.laws.specs.Loop.{upto}
+use Rattle.laws.proofs.laws.Loop.{upto-zero, upto-turn}
 use Rattle.mixer.specs.declared.sub.Track.{Track}
 use Rattle.mixer.specs.Sub.{trackUpdate}
 use Rattle.mixer.specs.Mixer.{stateOf, liveAt, liveAbove, trackStep, tracksUpdate}
-use Rattle.mixer.proofs.Turns.{scaled, next-fits, falls, place-within, upto-ended}
+use Rattle.mixer.proofs.laws.Turns.{scaled, next-fits, falls, place-within, upto-ended}
 use Rattle.mixer.proofs.mixer.update_tracks.Statement.{statement}
+use Rattle.accepted.specs.Lines.{absentTrackLine}
 use Rattle.mixer.proofs.mixer.update_tracks.Tie as tie
-use Rattle.mixer.proofs.mixer.update_tracks.Reads as reads
-use Rattle.mixer.proofs.mixer.update_tracks.Lts as lts
-use Rattle.mixer.proofs.mixer.live_above.Reads as live-above-reads
-use Rattle.mixer.proofs.mixer.place_of.Reads as place-of-reads
 
 abbrev Inv-loop : tie.InvT-loop
 Inv-loop count dt clocks lines moved₀ t₀ moved t = (t ≤ count) × (count ≤ 32) × (moved ≡ upto (trackStep lines dt clocks) t moved₀)
@@ -82,7 +79,7 @@ loop-again c =
     let start = l .before in
     let dt = start .args .dt in
     let clocks = start .args .clocks in
-    let reached = c .before .before .live-above .ensures ∙ ap (λ (p : ℕ). liveAt (stateOf (l .loop .moved) p) (getD (start .args .t2) (l .loop .t) absentTrack .parent)) (c .before .before .before .before .place-of .ensures) in (
+    let reached = c .before .before .live-above .ensures ∙ ap (λ (p : ℕ). liveAt (stateOf (l .loop .moved) p) (getD (start .args .t2) (l .loop .t) absentTrackLine .parent)) (c .before .before .before .before .place-of .ensures) in (
       add-one-le (c .before .before .before .before .before .before .loop-test .taken),
       l .loop .inv .1,
       ap (λ (x : Track). set (l .loop .moved) (l .loop .t) x)

@@ -1,6 +1,6 @@
 -- `mixer::update_where` meets its contract: the test is the definition's. Assumes nothing.
 use mathlib.Core.Path.{sym, ap, _∙_}
-use Rattle.laws.specs.Choice.{cond-true, cond-false}
+use Rattle.laws.proofs.laws.Choice.{cond-true, cond-false}
 use Rattle.parameter.specs.declared.parameter.ParameterUpdate.{ParameterUpdate}
 use Rattle.mixer.specs.Mixer.{updatedWhere}
 use Rattle.mixer.proofs.mixer.update_where.Statement.{statement}

@@ -4,9 +4,9 @@ use mathlib.Core.Bool.{Bool}
 use Prim.Native.Nat.{ℕ}
 use lib.Dec.{eqb}
 use borrow.Author.Tests.{eq-eqb, ne-eqb}
-use Rattle.mixer.specs.Orders.{alike}
-use Rattle.mixer.proofs.Ordered.{first-no, first-yes}
+use Rattle.mixer.proofs.laws.Ordered.{first-no, first-yes}
 use Rattle.mixer.proofs.orders.alike.Statement.{statement}
+use Rattle.mixer.specs.Orders.{sameKindAndIndex}
 use Rattle.mixer.proofs.orders.alike.Tie as tie
 
 -- the kinds' numbers are compared as the program has them
@@ -14,7 +14,7 @@ same-test : {a b m n : ℕ} {t : Bool} → m ≡ a → n ≡ b → eqb m n ≡ t
 same-test h k e = sym (ap₂ eqb h k) ∙ e
 
 returns : tie.Need-returns
-unfolding alike
+unfolding sameKindAndIndex
 returns c = first-no _ _ (ne-eqb _ _ (c .if1 .taken))
 
 kind-number-requires : tie.Need-kind-number-requires
@@ -24,13 +24,13 @@ kind-number-requires-2 : tie.Need-kind-number-requires-2
 kind-number-requires-2 c κs = tt
 
 returns-2 : tie.Need-returns-2
-unfolding alike
+unfolding sameKindAndIndex
 returns-2 c =
     let d = c .before .before .before in
     first-no _ _ (same-test (c .before .before .kind-number .ensures) (c .before .kind-number2 .ensures) (ne-eqb _ _ (c .if2 .taken))) ∙ first-yes _ _ (eq-eqb _ _ (d .if1 .left))
 
 returns-3 : tie.Need-returns-3
-unfolding alike
+unfolding sameKindAndIndex
 returns-3 c =
     let d = c .before .before in
     first-yes _ _ (same-test (d .before .before .kind-number .ensures) (d .before .kind-number2 .ensures) (eq-eqb _ _ (d .if2 .left))) ∙ first-yes _ _ (eq-eqb _ _ (d .before .before .before .if1 .left))

@@ -5,8 +5,8 @@ use native.Mathlib.Nat.{lt-of-lt-of-le}
 use lib.Dec.{lit<}
 use borrow.Author.Tests.{eq-eqb, ne-eqb}
 use Rattle.mixer.specs.Orders.{counts}
-use Rattle.mixer.proofs.Turns.{scaled}
-use Rattle.mixer.proofs.Ordered.{first-no, first-yes}
+use Rattle.mixer.proofs.laws.Turns.{scaled}
+use Rattle.mixer.proofs.laws.Ordered.{first-no, first-yes}
 use Rattle.mixer.proofs.orders.counts.Statement.{statement}
 use Rattle.mixer.proofs.orders.counts.Tie as tie
 

@@ -1,9 +1,9 @@
 -- `orders::found_later` meets its contract: the tests are the definition's. Assumes nothing.
 use mathlib.Core.Path.{sym, _∙_}
 use borrow.Author.Tests.{lt-ltb, le-ltb}
-use Rattle.laws.specs.Choice.{cond-true, cond-false}
+use Rattle.laws.proofs.laws.Choice.{cond-true, cond-false}
 use Rattle.mixer.specs.Orders.{foundLater}
-use Rattle.mixer.proofs.Ordered.{first-no, first-yes}
+use Rattle.mixer.proofs.laws.Ordered.{first-no, first-yes}
 use Rattle.mixer.proofs.orders.found_later.Statement.{statement}
 use Rattle.mixer.proofs.orders.found_later.Tie as tie
 

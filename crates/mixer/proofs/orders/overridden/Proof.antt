@@ -7,16 +7,17 @@ use native.Mathlib.Nat.{lt-of-lt-of-le}
 use native.Mathlib.Numerals.{add-one-le}
 use lib.Dec.{lit<}
 use lib.ListN.{getD}
-use Rattle.laws.specs.Loop.{upto, upto-zero, upto-turn}
+use Rattle.laws.specs.Loop.{upto}
+use Rattle.laws.proofs.laws.Loop.{upto-zero, upto-turn}
 use Rattle.scene.specs.declared.scene.OrderLine.{OrderLine}
-use Rattle.accepted.specs.Lines.{absentOrder}
 use Rattle.mixer.specs.Orders.{foundLater, overridden}
-use Rattle.mixer.proofs.Turns.{scaled, next-fits, falls, upto-ended}
+use Rattle.mixer.proofs.laws.Turns.{scaled, next-fits, falls, upto-ended}
 use Rattle.mixer.proofs.orders.overridden.Statement.{statement}
+use Rattle.accepted.specs.Lines.{absentOrderLine}
 use Rattle.mixer.proofs.orders.overridden.Tie as tie
 
 abbrev turn : List OrderLine → ℕ → ℕ → Bool → Bool
-turn orders i j found = foundLater (getD orders i absentOrder) (getD orders j absentOrder) i j found
+turn orders i j found = foundLater (getD orders i absentOrderLine) (getD orders j absentOrderLine) i j found
 
 abbrev Inv-loop : tie.InvT-loop
 Inv-loop count i orders order found₀ j₀ found j = (j ≤ count) × (count ≤ 128) × (found ≡ upto (turn orders i) j false)

@@ -1,13 +1,9 @@
 -- `sounds::played_after` meets its contract: the test is the definition's. Assumes nothing.
 use mathlib.Core.Path.{sym, _∙_}
 use borrow.Author.Needs.{needs}
-use Rattle.laws.specs.Choice.{cond-true, cond-false}
+use Rattle.laws.proofs.laws.Choice.{cond-true, cond-false}
 use Rattle.mixer.proofs.sounds.played_after.Statement.{statement}
 use Rattle.mixer.proofs.sounds.played_after.Tie as tie
-use Rattle.mixer.proofs.sounds.played_after.Reads as reads
-use Rattle.mixer.proofs.sounds.played_after.Lts as lts
-use Rattle.mixer.proofs.mixer.live_above.Reads as live-above-reads
-use Rattle.mixer.proofs.sounds.played_more.Reads as played-more-reads
 
 live-above-requires : tie.Need-live-above-requires
 live-above-requires c κs = search needs

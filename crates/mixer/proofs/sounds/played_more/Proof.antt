@@ -2,7 +2,7 @@
 use mathlib.Core.Path.{sym}
 use borrow.Author.Needs.{needs}
 use borrow.Author.Tests.{lt-ltb, le-ltb}
-use Rattle.laws.specs.Choice.{cond-true, cond-false}
+use Rattle.laws.proofs.laws.Choice.{cond-true, cond-false}
 use Rattle.mixer.specs.Sounds.{playedMore}
 use Rattle.mixer.proofs.sounds.played_more.Statement.{statement}
 use Rattle.mixer.proofs.sounds.played_more.Tie as tie

@@ -1,27 +1,25 @@
 -- `sounds::played_on` meets its contract. The invariant: the sounds below k have moved on. Assumes nothing.
 use mathlib.Core.Path.{_≡_, sym, ap, _∙_}
 use mathlib.Core.List.{List}
-use Prim.Native.Nat.{ℕ, _-_, _≤_, _<_, zero-le}
+use Prim.Native.Nat.{ℕ, _-_, _≤_, zero-le}
 use native.Mathlib.Nat.{le-refl, lt-of-lt-of-le}
 use native.Mathlib.Numerals.{add-one-le}
 use borrow.Author.Needs.{needs}
 use lib.Dec.{lit<}
 use lib.ListN.{getD}
-use Rattle.laws.specs.Loop.{changed, changed-zero}
+use Rattle.laws.specs.Loop.{changed}
+use Rattle.laws.proofs.laws.Loop.{changed-zero}
 use Rattle.scene.specs.declared.scene.SoundLine.{SoundLine}
-use Rattle.accepted.specs.Lines.{absentSound}
 use Rattle.mixer.specs.declared.sub.Track.{Track}
 use Rattle.mixer.specs.Mixer.{stateOf, liveAt, liveAbove}
 use Rattle.mixer.specs.Sounds.{playedWhere, playedAfter, playedOn}
-use Rattle.mixer.proofs.Turns.{scaled, next-fits, falls, place-within, turned-old, ended}
+use Rattle.mixer.proofs.laws.Turns.{scaled, next-fits, falls, place-within, turned-old, ended}
 use Rattle.mixer.proofs.sounds.played_on.Statement.{statement}
+use Rattle.accepted.specs.Lines.{absentSoundLine}
 use Rattle.mixer.proofs.sounds.played_on.Tie as tie
-use Rattle.mixer.proofs.sounds.played_on.Reads as reads
-use Rattle.mixer.proofs.sounds.played_on.Lts as lts
-use Rattle.mixer.proofs.mixer.place_of.Reads as place-of-reads
 
 abbrev after : List SoundLine → List Track → ℕ → ℕ → ℕ → ℕ
-after lines tracks frames k done = playedAfter tracks (getD lines k absentSound) frames done
+after lines tracks frames k done = playedAfter tracks (getD lines k absentSoundLine) frames done
 
 abbrev Inv-loop : tie.InvT-loop
 Inv-loop count frames played lines tracks next₀ k₀ next k = (k ≤ count) × (count ≤ 64) × (next ≡ changed (after lines tracks frames) k played)
@@ -79,7 +77,7 @@ unfolding playedAfter liveAbove
 loop-again c =
     let l = c .before .before .before .before .before in
     let start = l .before in
-    let line = getD (start .args .t2) (l .loop .k) absentSound in
+    let line = getD (start .args .t2) (l .loop .k) absentSoundLine in
     let done = getD (start .args .t1) (l .loop .k) 0 in (
       add-one-le (c .before .before .before .before .loop-test .taken),
       l .loop .inv .1,

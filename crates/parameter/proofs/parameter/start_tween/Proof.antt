@@ -3,14 +3,14 @@ use mathlib.Core.Path.{sym, ap, _∙_}
 use mathlib.Core.Bool.{false}
 use Prim.Native.Nat.{ℕ}
 use borrow.Author.Tests.{eq-eqb, ne-eqb}
-use Rattle.laws.specs.Choice.{cond-true, cond-false}
+use borrow.Author.Needs.{needs}
+use Rattle.laws.proofs.laws.Choice.{cond-true, cond-false}
 use Rattle.tween.specs.declared.start_time.StartTime.{StartTime}
 use Rattle.tween.specs.declared.start_time.StartTime.the-variants.{Delayed}
 use Rattle.tween.specs.declared.tween.Tween.{Tween}
 use Rattle.clock.specs.declared.when_to_start.WhenToStart.{WhenToStart}
 use Rattle.parameter.specs.declared.parameter.TweenStart.{TweenStart}
 use Rattle.parameter.specs.Parameter.{isNow, startedAt, tweenStart}
-use borrow.Author.Needs.{needs}
 use Rattle.parameter.proofs.parameter.start_tween.Statement.{statement}
 use Rattle.parameter.proofs.parameter.start_tween.Tie as tie
 

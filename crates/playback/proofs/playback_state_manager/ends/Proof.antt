@@ -1,8 +1,8 @@
 -- `playback_state_manager::ends` meets its contract: the test is the definition's. Assumes nothing.
 use mathlib.Core.Path.{sym, _∙_}
-use Rattle.laws.specs.Choice.{cond-true, cond-false}
-use Rattle.playback.specs.PlaybackStateManager.{afterFade}
 use borrow.Author.Needs.{needs}
+use Rattle.laws.proofs.laws.Choice.{cond-true, cond-false}
+use Rattle.playback.specs.PlaybackStateManager.{afterFade}
 use Rattle.playback.proofs.playback_state_manager.ends.Statement.{statement}
 use Rattle.playback.proofs.playback_state_manager.ends.Tie as tie
 

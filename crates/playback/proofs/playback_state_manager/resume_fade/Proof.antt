@@ -1,11 +1,11 @@
 -- `playback_state_manager::resume_fade` meets its contract. Assumes nothing.
 use mathlib.Core.Path.{ap}
 use lib.Ieee.{ofInt, ofBits}
+use borrow.Author.Needs.{needs}
 use Rattle.parameter.specs.declared.parameter.Parameter.{Parameter}
 use Rattle.playback.specs.declared.playback_state_manager.PlaybackState.the-variants.{Resuming}
 use Rattle.playback.specs.declared.playback_state_manager.PlaybackStateManager.{PlaybackStateManager}
 use Rattle.playback.specs.PlaybackStateManager.{resumed}
-use borrow.Author.Needs.{needs}
 use Rattle.playback.proofs.playback_state_manager.resume_fade.Statement.{statement}
 use Rattle.playback.proofs.playback_state_manager.resume_fade.Tie as tie
 

@@ -1,8 +1,8 @@
 -- `playback_state_manager::update_state` meets its contract: each arm is the definition's. Assumes nothing.
 use mathlib.Core.Path.{sym, ap, _∙_}
+use borrow.Author.Needs.{needs}
 use Rattle.playback.specs.declared.playback_state_manager.PlaybackState.{PlaybackState}
 use Rattle.playback.specs.PlaybackStateManager.{stateUpdate}
-use borrow.Author.Needs.{needs}
 use Rattle.playback.proofs.playback_state_manager.update_state.Statement.{statement}
 use Rattle.playback.proofs.playback_state_manager.update_state.Tie as tie
 

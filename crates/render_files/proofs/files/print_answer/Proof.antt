@@ -3,7 +3,7 @@ use native.Mathlib.Nat.{le-trans}
 use native.Mathlib.Omega.{arith}
 use borrow.Author.Needs.{needs}
 use Rattle.render_files.specs.Program.{broken}
-use Rattle.render_files.specs.ProgramLaws.{same-text, printed-refusal, number-refused, scene-ok, answer-yes, long-output, short-output, width-least, width-most, frames-most, samples-most}
+use Rattle.render_files.proofs.laws.Program.{same-text, printed-refusal, number-refused, scene-ok, answer-yes, long-output, short-output, width-least, width-most, frames-most, samples-most}
 use Rattle.render_files.proofs.files.print_answer.Statement.{statement}
 use Rattle.render_files.proofs.files.print_answer.Tie as tie
 

@@ -1,6 +1,6 @@
 -- `print_files` meets its contract. Assumes nothing.
 use borrow.Author.Needs.{needs}
-use Rattle.render_files.specs.ProgramLaws.{samples-again}
+use Rattle.render_files.proofs.laws.Program.{samples-again}
 use Rattle.render_files.proofs.files.print_files.Statement.{statement}
 use Rattle.render_files.proofs.files.print_files.Tie as tie
 

@@ -2,7 +2,7 @@
 use mathlib.Core.Path.{ap}
 use borrow.Author.Needs.{needs}
 use Rattle.render_files.specs.Program.{printedOutput}
-use Rattle.render_files.specs.ProgramLaws.{same-text, render-again}
+use Rattle.render_files.proofs.laws.Program.{same-text, render-again}
 use Rattle.render_files.proofs.files.print_render.Statement.{statement}
 use Rattle.render_files.proofs.files.print_render.Tie as tie
 

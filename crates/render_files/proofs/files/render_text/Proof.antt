@@ -2,7 +2,7 @@
 use native.Mathlib.Omega.{arith}
 use borrow.Author.Needs.{needs}
 use Rattle.render_files.specs.Program.{printed}
-use Rattle.render_files.specs.ProgramLaws.{same-text, begun-within, printed-refusal, many-samples}
+use Rattle.render_files.proofs.laws.Program.{same-text, begun-within, printed-refusal, many-samples}
 use Rattle.render_files.proofs.files.render_text.Statement.{statement}
 use Rattle.render_files.proofs.files.render_text.Tie as tie
 

@@ -1,6 +1,6 @@
 -- `with_broken` meets its contract. Assumes nothing.
 use native.Mathlib.Omega.{arith}
-use Rattle.render_files.specs.ProgramLaws.{whole-last, broken-none, broken-later, broken-sooner}
+use Rattle.render_files.proofs.laws.Program.{whole-last, broken-none, broken-later, broken-sooner}
 use Rattle.render_files.proofs.files.with_broken.Statement.{statement}
 use Rattle.render_files.proofs.files.with_broken.Tie as tie
 

@@ -1,22 +1,21 @@
 -- The proof of the cycle of calls {put_decimal}: the last digit comes after those of a tenth. The measure is `steps`. Assumes nothing.
 use mathlib.Core.Path.{_≡_, sym, ap, _∙_, subst}
 use mathlib.Core.List.{List, [], _∷_, _++_}
-use Prim.Native.Nat.{_+_, _-_, _/_}
+use Prim.Native.Nat.{_+_, _-_, _/_, ℕ, _<_}
 use native.Mathlib.Omega.{arith}
 use lib.ListN.{length, set}
 use borrow.Author.Needs.{needs}
-use Rattle.laws.specs.Pieces.{putAt}
-use Rattle.render_files.specs.Program.{decimalWithin}
-use Rattle.render_files.specs.PrintLaws.{put-one, put-last, decimal-zero, decimal-short, decimal-long, decimal-length}
-use Prim.Native.Nat.{ℕ, _<_}
 use borrow.Fn.Kinds.{In}
 use borrow.Fn.PlainCycle.{Measures, is, falls, and}
-use Rattle.render_files.proofs.print.put_decimal.Reads as put-decimal
-use Rattle.render_files.proofs.print.put_decimal.Kinds as put-decimal-kinds
-use Rattle.render_files.proofs.print.+put_decimal.Lts-put_decimal as put-decimal-lts
-use Rattle.render_files.proofs.print.digit.Reads as digit-reads
+use Rattle.laws.specs.Pieces.{putAt}
+use Rattle.render_files.specs.Program.{decimalWithin}
+use Rattle.render_files.proofs.laws.Print.{put-one, put-last, decimal-zero, decimal-short, decimal-long, decimal-length}
 use Rattle.render_files.proofs.print.+put_decimal.{statement}
 use Rattle.render_files.proofs.print.+put_decimal.Tie.{close}
+use Rattle.render_files.proofs.print.put_decimal.Kinds as put-decimal-kinds
+use Rattle.render_files.proofs.print.put_decimal.Reads as put-decimal
+use Rattle.render_files.proofs.print.+put_decimal.Lts-put_decimal as put-decimal-lts
+use Rattle.render_files.proofs.print.digit.Reads as digit-reads
 
 abbrev μ-put-decimal : Measures 1 put-decimal-kinds.ps ℕ
 μ-put-decimal κs a = a .1 .1 .0

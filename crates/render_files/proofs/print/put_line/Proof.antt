@@ -1,7 +1,7 @@
 -- `put_line` meets its contract: three numbers, one after another. Assumes nothing.
 use native.Mathlib.Omega.{arith}
 use borrow.Author.Needs.{needs}
-use Rattle.render_files.specs.PrintLaws.{put-line, number-length}
+use Rattle.render_files.proofs.laws.Print.{put-line, number-length}
 use Rattle.render_files.proofs.print.put_line.Statement.{statement}
 use Rattle.render_files.proofs.print.put_line.Tie as tie
 

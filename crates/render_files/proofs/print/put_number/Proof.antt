@@ -2,7 +2,7 @@
 use native.Mathlib.Omega.{arith}
 use borrow.Author.Needs.{needs}
 use Rattle.render_files.specs.Program.{decimal, decimalWithin}
-use Rattle.render_files.specs.PrintLaws.{put-last, decimal-length}
+use Rattle.render_files.proofs.laws.Print.{put-last, decimal-length}
 use Rattle.render_files.proofs.print.put_number.Statement.{statement}
 use Rattle.render_files.proofs.print.put_number.Tie as tie
 

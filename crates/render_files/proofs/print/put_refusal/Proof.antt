@@ -3,7 +3,7 @@ use borrow.Author.Needs.{needs}
 use mathlib.Core.List.{[], _∷_, _++_}
 use Rattle.scene_tables.specs.Bytes.{bytesOf}
 use Rattle.render_files.specs.Program.{decimal, printedRefusal}
-use Rattle.render_files.specs.PrintLaws.{begun-then}
+use Rattle.render_files.proofs.laws.Print.{begun-then}
 use Rattle.render_files.proofs.print.put_refusal.Statement.{statement}
 use Rattle.render_files.proofs.print.put_refusal.Tie as tie
 

@@ -5,8 +5,9 @@ use Prim.Native.Nat.{ℕ, _-_, _≤_}
 use lib.ListN.{length, take}
 use lib.Seq.{take-all}
 use borrow.Author.Needs.{needs}
-use Rattle.laws.specs.Pieces.{putAt, put-nil}
-use Rattle.render_files.specs.PrintLaws.{put-element}
+use Rattle.laws.specs.Pieces.{putAt}
+use Rattle.laws.proofs.laws.Pieces.{put-nil}
+use Rattle.render_files.proofs.laws.Print.{put-element}
 use Rattle.render_files.proofs.print.put_text.Statement.{statement}
 use Rattle.render_files.proofs.print.put_text.Tie as tie
 

@@ -5,7 +5,8 @@ use Prim.Native.Nat.{ℕ, _/_, _-_, _≤_}
 use lib.ListN.{length}
 use lib.Ieee.{Float, binary32, ofBits}
 use borrow.Author.Needs.{needs}
-use Rattle.laws.specs.Pieces.{pieces, begun, begun-zero, begun-next, begun-end, length-elements, set-put}
+use Rattle.laws.specs.Pieces.{pieces, begun}
+use Rattle.laws.proofs.laws.Pieces.{begun-zero, begun-next, begun-end, length-elements, set-put}
 use Rattle.float_bits.specs.Bits.{wordFrom}
 use Rattle.render_files.specs.Program.{wordAt, samplesOf}
 use Rattle.render_files.proofs.samples.read_samples.Statement.{statement}

@@ -1,6 +1,6 @@
 use mathlib.Core.Path.{sym}
 use lib.Ieee.{ofInt, ofBits}
-use Rattle.renderer.specs.Channels.{channel-folded, channel-left, channel-right, channel-silent}
+use Rattle.renderer.proofs.laws.Channels.{channel-folded, channel-left, channel-right, channel-silent}
 use Rattle.renderer.proofs.renderer.channel_of.Statement.{statement}
 use Rattle.renderer.proofs.renderer.channel_of.Tie as tie
 

@@ -3,7 +3,7 @@ use Prim.Native.Nat.{_-_, _*_}
 use lib.Dec.{ltb}
 use borrow.Author.Needs.{needs}
 use borrow.Author.Tests.{lt-ltb, le-ltb}
-use Rattle.laws.specs.Choice.{cond-true, cond-false}
+use Rattle.laws.proofs.laws.Choice.{cond-true, cond-false}
 use Rattle.renderer.specs.Renderer.{chunkFrames}
 use Rattle.renderer.proofs.renderer.chunk_frames.Statement.{statement}
 use Rattle.renderer.proofs.renderer.chunk_frames.Tie as tie

@@ -1,7 +1,7 @@
 use mathlib.Core.Path.{refl}
 use native.Mathlib.Omega.{arith}
 use lib.Ieee.{ofInt, ofBits}
-use Rattle.renderer.specs.RendererLaws.{held-in-float}
+use Rattle.renderer.proofs.laws.Renderer.{held-in-float}
 use Rattle.renderer.proofs.renderer.chunk_seconds.Statement.{statement}
 use Rattle.renderer.proofs.renderer.chunk_seconds.Tie as tie
 

@@ -5,11 +5,12 @@ use native.Mathlib.Omega.{arith}
 use lib.ListN.{length}
 use borrow.Author.Needs.{needs}
 use borrow.Rule.Slice.PartMut.{same-len-mid}
-use Rattle.laws.specs.Pieces.{pieces, begun, length-part, begun-zero, begun-end}
+use Rattle.laws.specs.Pieces.{pieces, begun}
+use Rattle.laws.proofs.laws.Pieces.{length-part, begun-zero, begun-end}
 use Rattle.mixer.specs.MixerOk.{MixerOk}
 use Rattle.renderer.specs.Renderer.{chunkCount, chunksDone}
-use Rattle.renderer.specs.Lengths.{blockPiece, length-block, block-pieces}
-use Rattle.renderer.specs.RendererLaws.{chunks-ok, in-block, turn-starts, turn-ends, turn-fits, block-turn, chunks-turn, chunks-zero}
+use Rattle.renderer.proofs.laws.Lengths.{blockPiece, length-block, block-pieces}
+use Rattle.renderer.proofs.laws.Renderer.{chunks-ok, in-block, turn-starts, turn-ends, turn-fits, block-turn, chunks-turn, chunks-zero}
 use Rattle.renderer.proofs.renderer.process_block.Statement.{statement}
 use Rattle.renderer.proofs.renderer.process_block.Tie as tie
 

@@ -3,9 +3,9 @@ use Prim.Native.Nat.{suc, _*_}
 use native.Mathlib.Omega.{arith}
 use borrow.Author.Needs.{needs}
 use Rattle.mixer.specs.Sounds.{soundsPlayed}
-use Rattle.mixer_laws.specs.MixerLaws.{mixes}
+use Rattle.mixer_laws.proofs.laws.Mixes.{mixes}
 use Rattle.renderer.specs.Renderer.{chunkDone, chunkSamples}
-use Rattle.renderer.specs.RendererLaws.{few-at, update-asks, moved-is, moved-ok, frames-of, chunk-of-ok, chunk-written}
+use Rattle.renderer.proofs.laws.Renderer.{few-at, update-asks, moved-is, moved-ok, frames-of, chunk-of-ok, chunk-written}
 use Rattle.renderer.proofs.renderer.process_chunk.Statement.{statement}
 use Rattle.renderer.proofs.renderer.process_chunk.Tie as tie
 

@@ -5,10 +5,11 @@ use native.Mathlib.Omega.{arith}
 use lib.Dec.{lit<}
 use lib.ListN.{length}
 use borrow.Author.Needs.{needs}
-use Rattle.laws.specs.Pieces.{pieces, begun, begun-zero, begun-next, begun-end}
-use Rattle.track.specs.Frame.{clamped}
+use Rattle.laws.specs.Pieces.{pieces, begun}
+use Rattle.laws.proofs.laws.Pieces.{begun-zero, begun-next, begun-end}
+use Rattle.frame.specs.Frame.{clamped}
 use Rattle.renderer.specs.Renderer.{channelsOf}
-use Rattle.renderer.specs.Lengths.{next-place, framePiece, length-frames}
+use Rattle.renderer.proofs.laws.Lengths.{next-place, framePiece, length-frames}
 use Rattle.renderer.proofs.renderer.write_channels.Statement.{statement}
 use Rattle.renderer.proofs.renderer.write_channels.Tie as tie
 

@@ -4,7 +4,8 @@ use Prim.Native.Nat.{_-_, _≤_}
 use native.Mathlib.Omega.{arith}
 use lib.ListN.{length, length-set}
 use borrow.Author.Needs.{needs}
-use Rattle.laws.specs.Pieces.{pieces, putAt, put-zero, put-next}
+use Rattle.laws.specs.Pieces.{pieces, putAt}
+use Rattle.laws.proofs.laws.Pieces.{put-zero, put-next}
 use Rattle.renderer.specs.Renderer.{channelAt, channelsOf}
 use Rattle.renderer.proofs.renderer.write_frame.Statement.{statement}
 use Rattle.renderer.proofs.renderer.write_frame.Tie as tie

@@ -1,15 +1,11 @@
 -- `renderer::write_frames` meets its contract. Assumes nothing.
-use mathlib.Core.Path.{_≡_, sym, ap, _∙_}
+use mathlib.Core.Path.{sym, ap, _∙_}
 use Prim.Native.Nat.{ℕ, _*_}
 use borrow.Author.Needs.{needs}
 use Rattle.laws.specs.Pieces.{pieces}
-use Rattle.renderer.specs.Lengths.{framePiece}
+use Rattle.renderer.proofs.laws.Lengths.{framePiece}
 use Rattle.renderer.proofs.renderer.write_frames.Statement.{statement}
 use Rattle.renderer.proofs.renderer.write_frames.Tie as tie
-use Rattle.renderer.proofs.renderer.write_frames.Reads as reads
-use Rattle.renderer.proofs.renderer.write_frames.Lts as lts
-use Rattle.renderer.proofs.renderer.write_channels.Reads as write-channels-reads
-use Rattle.renderer.proofs.renderer.write_stereo.Reads as write-stereo-reads
 
 write-stereo-requires : tie.Need-write-stereo-requires
 write-stereo-requires c κs =

@@ -4,15 +4,14 @@ use Prim.Native.Nat.{ℕ, _+_, _-_, _*_, _≤_, _<_}
 use native.Mathlib.Omega.{arith}
 use lib.ListN.{length, set, length-set}
 use borrow.Author.Needs.{needs}
-use Rattle.laws.specs.Pieces.{pieces, begun, begun-zero, begun-next, begun-end}
-use Rattle.track.specs.Frame.{clamped}
+use Rattle.laws.specs.Pieces.{pieces, begun}
+use Rattle.laws.proofs.laws.Pieces.{begun-zero, begun-next, begun-end}
+use Rattle.frame.specs.Frame.{clamped}
 use Rattle.renderer.specs.Renderer.{channelsOf}
-use Rattle.renderer.specs.Lengths.{framePiece, length-frames}
-use Rattle.renderer.specs.Channels.{stereo-put}
+use Rattle.renderer.proofs.laws.Lengths.{framePiece, length-frames}
+use Rattle.renderer.proofs.laws.Channels.{stereo-put}
 use Rattle.renderer.proofs.renderer.write_stereo.Statement.{statement}
 use Rattle.renderer.proofs.renderer.write_stereo.Tie as tie
-use Rattle.renderer.proofs.renderer.write_stereo.Reads as reads
-use Rattle.renderer.proofs.renderer.write_stereo.Lts as lts
 
 abbrev Inv-loop : tie.InvT-loop
 Inv-loop out₀ mix frames i₀ out i = (i ≤ frames) × (length out ≡ length out₀) × (out ≡ begun (pieces (framePiece 2 mix) i) out₀)

@@ -4,14 +4,14 @@ use Prim.Native.Nat.{_≤_, _-_}
 use lib.ListN.{take}
 use borrow.Author.Needs.{needs}
 use native.Mathlib.Omega.{arith}
-use Rattle.scene.specs.Scene.{filled, noClock, clockOf}
+use Rattle.scene.specs.Scene.{filled, clockOf, emptyClockLine}
 use Rattle.scene_questions.specs.Places.{rowsIn}
-use Rattle.scene.specs.Laws.Typed.{fill-start, fill-next, fill-done}
+use Rattle.scene.proofs.laws.Typed.{fill-start, fill-next, fill-done}
 use Rattle.scene.proofs.scene.clock_lines.Statement.{statement}
 use Rattle.scene.proofs.scene.clock_lines.Tie as tie
 
 abbrev Inv-loop : tie.InvT-loop
-Inv-loop values start lines out₀ i₀ out i = (i ≤ lines) × (out ≡ filled 8 noClock clockOf (take i (rowsIn values start 3 lines)))
+Inv-loop values start lines out₀ i₀ out i = (i ≤ lines) × (out ≡ filled 8 emptyClockLine clockOf (take i (rowsIn values start 3 lines)))
 
 abbrev μ-loop : tie.MeasureT-loop
 μ-loop values start lines out₀ i₀ out i = lines - i
@@ -20,7 +20,7 @@ no-clock-requires : tie.Need-no-clock-requires Inv-loop μ-loop
 no-clock-requires c κs = search needs
 
 loop-holds : tie.Need-loop-holds Inv-loop μ-loop
-loop-holds c = (omega arith, fill-start 8 noClock clockOf (c .no-clock .result) (c .no-clock .ensures))
+loop-holds c = (omega arith, fill-start 8 emptyClockLine clockOf (c .no-clock .result) (c .no-clock .ensures))
 
 mul-clock-line-of : tie.Need-mul-clock-line-of Inv-loop μ-loop
 mul-clock-line-of c = omega arith

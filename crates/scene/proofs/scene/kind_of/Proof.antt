@@ -1,7 +1,7 @@
 -- `kind_of` meets its contract. Assumes nothing.
 use borrow.Author.Tests.{eq-eqb, ne-eqb}
-use Rattle.scene.specs.Scene.{kindOf}
 use borrow.Author.Needs.{needs}
+use Rattle.scene.specs.Scene.{kindOf}
 use Rattle.scene.proofs.scene.kind_of.Statement.{statement}
 use Rattle.scene.proofs.scene.kind_of.Tie as tie
 

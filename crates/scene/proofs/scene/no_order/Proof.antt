@@ -1,12 +1,12 @@
 -- `no_order` meets its contract. Assumes nothing.
 use mathlib.Core.Path.{refl}
 use lib.Ieee.{ofBits, ofInt}
-use Rattle.scene.specs.Scene.{noOrder}
 use Rattle.scene.proofs.scene.no_order.Statement.{statement}
+use Rattle.scene.specs.Scene.{emptyOrderLine}
 use Rattle.scene.proofs.scene.no_order.Tie as tie
 
 returns : tie.Need-returns
-unfolding noOrder ofBits ofInt
+unfolding emptyOrderLine ofBits ofInt
 returns c = refl
 
 pub no-order-spec : {M : Type 1} → statement M

@@ -1,12 +1,12 @@
 -- `no_sound` meets its contract. Assumes nothing.
 use mathlib.Core.Path.{refl}
 use lib.Ieee.{ofBits, ofInt}
-use Rattle.scene.specs.Scene.{noSound}
 use Rattle.scene.proofs.scene.no_sound.Statement.{statement}
+use Rattle.scene.specs.Scene.{emptySoundLine}
 use Rattle.scene.proofs.scene.no_sound.Tie as tie
 
 returns : tie.Need-returns
-unfolding noSound ofBits ofInt
+unfolding emptySoundLine ofBits ofInt
 returns c = refl
 
 pub no-sound-spec : {M : Type 1} → statement M

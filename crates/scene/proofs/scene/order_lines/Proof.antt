@@ -4,14 +4,14 @@ use Prim.Native.Nat.{_≤_, _-_}
 use lib.ListN.{take}
 use borrow.Author.Needs.{needs}
 use native.Mathlib.Omega.{arith}
-use Rattle.scene.specs.Scene.{filled, noOrder, orderOf}
+use Rattle.scene.specs.Scene.{filled, orderOf, emptyOrderLine}
 use Rattle.scene_questions.specs.Places.{rowsIn}
-use Rattle.scene.specs.Laws.Typed.{fill-start, fill-next, fill-done}
+use Rattle.scene.proofs.laws.Typed.{fill-start, fill-next, fill-done}
 use Rattle.scene.proofs.scene.order_lines.Statement.{statement}
 use Rattle.scene.proofs.scene.order_lines.Tie as tie
 
 abbrev Inv-loop : tie.InvT-loop
-Inv-loop values start lines out₀ i₀ out i = (i ≤ lines) × (out ≡ filled 128 noOrder orderOf (take i (rowsIn values start 10 lines)))
+Inv-loop values start lines out₀ i₀ out i = (i ≤ lines) × (out ≡ filled 128 emptyOrderLine orderOf (take i (rowsIn values start 10 lines)))
 
 abbrev μ-loop : tie.MeasureT-loop
 μ-loop values start lines out₀ i₀ out i = lines - i
@@ -20,7 +20,7 @@ no-order-requires : tie.Need-no-order-requires Inv-loop μ-loop
 no-order-requires c κs = search needs
 
 loop-holds : tie.Need-loop-holds Inv-loop μ-loop
-loop-holds c = (omega arith, fill-start 128 noOrder orderOf (c .no-order .result) (c .no-order .ensures))
+loop-holds c = (omega arith, fill-start 128 emptyOrderLine orderOf (c .no-order .result) (c .no-order .ensures))
 
 mul-order-line-of : tie.Need-mul-order-line-of Inv-loop μ-loop
 mul-order-line-of c = omega arith

@@ -4,14 +4,14 @@ use Prim.Native.Nat.{_≤_, _-_}
 use lib.ListN.{take}
 use borrow.Author.Needs.{needs}
 use native.Mathlib.Omega.{arith}
-use Rattle.scene.specs.Scene.{filled, noRoute, routeOf}
+use Rattle.scene.specs.Scene.{filled, routeOf, emptyRouteLine}
 use Rattle.scene_questions.specs.Places.{rowsIn}
-use Rattle.scene.specs.Laws.Typed.{fill-start, fill-next, fill-done}
+use Rattle.scene.proofs.laws.Typed.{fill-start, fill-next, fill-done}
 use Rattle.scene.proofs.scene.route_lines.Statement.{statement}
 use Rattle.scene.proofs.scene.route_lines.Tie as tie
 
 abbrev Inv-loop : tie.InvT-loop
-Inv-loop values start lines out₀ i₀ out i = (i ≤ lines) × (out ≡ filled 64 noRoute routeOf (take i (rowsIn values start 3 lines)))
+Inv-loop values start lines out₀ i₀ out i = (i ≤ lines) × (out ≡ filled 64 emptyRouteLine routeOf (take i (rowsIn values start 3 lines)))
 
 abbrev μ-loop : tie.MeasureT-loop
 μ-loop values start lines out₀ i₀ out i = lines - i
@@ -20,7 +20,7 @@ no-route-requires : tie.Need-no-route-requires Inv-loop μ-loop
 no-route-requires c κs = search needs
 
 loop-holds : tie.Need-loop-holds Inv-loop μ-loop
-loop-holds c = (omega arith, fill-start 64 noRoute routeOf (c .no-route .result) (c .no-route .ensures))
+loop-holds c = (omega arith, fill-start 64 emptyRouteLine routeOf (c .no-route .result) (c .no-route .ensures))
 
 mul-route-line-of : tie.Need-mul-route-line-of Inv-loop μ-loop
 mul-route-line-of c = omega arith

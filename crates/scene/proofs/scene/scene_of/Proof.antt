@@ -1,9 +1,9 @@
 -- `scene_of` meets its contract. Assumes nothing.
 use mathlib.Core.List.{[]}
 use native.Mathlib.Omega.{arith}
-use Rattle.scene_tables.specs.Tables.{width}
-use Rattle.scene.specs.Laws.Whole.{lies, scene-is}
 use borrow.Author.Needs.{needs}
+use Rattle.scene_tables.specs.Tables.{width}
+use Rattle.scene.proofs.laws.Whole.{lies, scene-is}
 use Rattle.scene.proofs.scene.scene_of.Statement.{statement}
 use Rattle.scene.proofs.scene.scene_of.Tie as tie
 

@@ -4,14 +4,14 @@ use Prim.Native.Nat.{_≤_, _-_}
 use lib.ListN.{take}
 use borrow.Author.Needs.{needs}
 use native.Mathlib.Omega.{arith}
-use Rattle.scene.specs.Scene.{filled, noSend, sendOf}
+use Rattle.scene.specs.Scene.{filled, sendOf, emptySendLine}
 use Rattle.scene_questions.specs.Places.{rowsIn}
-use Rattle.scene.specs.Laws.Typed.{fill-start, fill-next, fill-done}
+use Rattle.scene.proofs.laws.Typed.{fill-start, fill-next, fill-done}
 use Rattle.scene.proofs.scene.send_lines.Statement.{statement}
 use Rattle.scene.proofs.scene.send_lines.Tie as tie
 
 abbrev Inv-loop : tie.InvT-loop
-Inv-loop values start lines out₀ i₀ out i = (i ≤ lines) × (out ≡ filled 8 noSend sendOf (take i (rowsIn values start 1 lines)))
+Inv-loop values start lines out₀ i₀ out i = (i ≤ lines) × (out ≡ filled 8 emptySendLine sendOf (take i (rowsIn values start 1 lines)))
 
 abbrev μ-loop : tie.MeasureT-loop
 μ-loop values start lines out₀ i₀ out i = lines - i
@@ -20,7 +20,7 @@ no-send-requires : tie.Need-no-send-requires Inv-loop μ-loop
 no-send-requires c κs = search needs
 
 loop-holds : tie.Need-loop-holds Inv-loop μ-loop
-loop-holds c = (omega arith, fill-start 8 noSend sendOf (c .no-send .result) (c .no-send .ensures))
+loop-holds c = (omega arith, fill-start 8 emptySendLine sendOf (c .no-send .result) (c .no-send .ensures))
 
 mul-send-line-of : tie.Need-mul-send-line-of Inv-loop μ-loop
 mul-send-line-of c = omega arith

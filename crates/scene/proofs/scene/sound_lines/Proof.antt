@@ -4,14 +4,14 @@ use Prim.Native.Nat.{_≤_, _-_}
 use lib.ListN.{take}
 use borrow.Author.Needs.{needs}
 use native.Mathlib.Omega.{arith}
-use Rattle.scene.specs.Scene.{filled, noSound, soundOf}
+use Rattle.scene.specs.Scene.{filled, soundOf, emptySoundLine}
 use Rattle.scene_questions.specs.Places.{rowsIn}
-use Rattle.scene.specs.Laws.Typed.{fill-start, fill-next, fill-done}
+use Rattle.scene.proofs.laws.Typed.{fill-start, fill-next, fill-done}
 use Rattle.scene.proofs.scene.sound_lines.Statement.{statement}
 use Rattle.scene.proofs.scene.sound_lines.Tie as tie
 
 abbrev Inv-loop : tie.InvT-loop
-Inv-loop values start lines out₀ i₀ out i = (i ≤ lines) × (out ≡ filled 64 noSound soundOf (take i (rowsIn values start 3 lines)))
+Inv-loop values start lines out₀ i₀ out i = (i ≤ lines) × (out ≡ filled 64 emptySoundLine soundOf (take i (rowsIn values start 3 lines)))
 
 abbrev μ-loop : tie.MeasureT-loop
 μ-loop values start lines out₀ i₀ out i = lines - i
@@ -20,7 +20,7 @@ no-sound-requires : tie.Need-no-sound-requires Inv-loop μ-loop
 no-sound-requires c κs = search needs
 
 loop-holds : tie.Need-loop-holds Inv-loop μ-loop
-loop-holds c = (omega arith, fill-start 64 noSound soundOf (c .no-sound .result) (c .no-sound .ensures))
+loop-holds c = (omega arith, fill-start 64 emptySoundLine soundOf (c .no-sound .result) (c .no-sound .ensures))
 
 mul-sound-line-of : tie.Need-mul-sound-line-of Inv-loop μ-loop
 mul-sound-line-of c = omega arith

@@ -4,14 +4,14 @@ use Prim.Native.Nat.{_≤_, _-_}
 use lib.ListN.{take}
 use borrow.Author.Needs.{needs}
 use native.Mathlib.Omega.{arith}
-use Rattle.scene.specs.Scene.{filled, noTrack, trackOf}
+use Rattle.scene.specs.Scene.{filled, trackOf, emptyTrackLine}
 use Rattle.scene_questions.specs.Places.{rowsIn}
-use Rattle.scene.specs.Laws.Typed.{fill-start, fill-next, fill-done}
+use Rattle.scene.proofs.laws.Typed.{fill-start, fill-next, fill-done}
 use Rattle.scene.proofs.scene.track_lines.Statement.{statement}
 use Rattle.scene.proofs.scene.track_lines.Tie as tie
 
 abbrev Inv-loop : tie.InvT-loop
-Inv-loop values start lines out₀ i₀ out i = (i ≤ lines) × (out ≡ filled 32 noTrack trackOf (take i (rowsIn values start 2 lines)))
+Inv-loop values start lines out₀ i₀ out i = (i ≤ lines) × (out ≡ filled 32 emptyTrackLine trackOf (take i (rowsIn values start 2 lines)))
 
 abbrev μ-loop : tie.MeasureT-loop
 μ-loop values start lines out₀ i₀ out i = lines - i
@@ -20,7 +20,7 @@ no-track-requires : tie.Need-no-track-requires Inv-loop μ-loop
 no-track-requires c κs = search needs
 
 loop-holds : tie.Need-loop-holds Inv-loop μ-loop
-loop-holds c = (omega arith, fill-start 32 noTrack trackOf (c .no-track .result) (c .no-track .ensures))
+loop-holds c = (omega arith, fill-start 32 emptyTrackLine trackOf (c .no-track .result) (c .no-track .ensures))
 
 mul-track-line-of : tie.Need-mul-track-line-of Inv-loop μ-loop
 mul-track-line-of c = omega arith

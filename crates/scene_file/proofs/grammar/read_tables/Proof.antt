@@ -5,7 +5,7 @@ use borrow.Author.Tests.{not-true, not-false}
 use borrow.Author.Needs.{needs}
 use native.Mathlib.Omega.{arith}
 use Rattle.scene_tables.specs.Tables.{tables}
-use Rattle.scene_file.specs.Laws.Layout.{TablesLoop, tables-start, tables-done, tables-none, tables-bad, tables-next, tables-space, names-count, name-start, name-within, name-lies, name-add}
+use Rattle.scene_file.proofs.laws.Layout.{TablesLoop, tables-start, tables-done, tables-none, tables-bad, tables-next, tables-space, names-count, name-start, name-within, name-lies, name-add}
 use Rattle.scene_file.proofs.grammar.read_tables.Statement.{statement}
 use Rattle.scene_file.proofs.grammar.read_tables.Tie as tie
 

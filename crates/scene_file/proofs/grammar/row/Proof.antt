@@ -3,8 +3,8 @@ use Prim.Native.Nat.{_+_, _-_}
 use lib.ListN.{length}
 use borrow.Author.Needs.{needs}
 use native.Mathlib.Omega.{arith}
-use Rattle.scene_file.specs.Laws.Fields.{RowLoop, row-start, row-room, row-add-place, row-mul-place, row-add-from, row-add-one, row-next, row-bad, row-done}
-use Rattle.scene_file.specs.Laws.Numbers.{position-count}
+use Rattle.scene_file.proofs.laws.Fields.{RowLoop, row-start, row-room, row-add-place, row-mul-place, row-add-from, row-add-one, row-next, row-bad, row-done}
+use Rattle.scene_file.proofs.laws.Numbers.{position-count}
 use Rattle.scene_file.proofs.grammar.row.Statement.{statement}
 use Rattle.scene_file.proofs.grammar.row.Tie as tie
 

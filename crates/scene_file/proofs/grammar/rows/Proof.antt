@@ -1,11 +1,11 @@
 -- `rows` meets its contract: the lines left, after the numbers written, give what all value lines give (`RowsLoop`). Assumes nothing.
-use Prim.Native.Nat.{_+_, _-_}
+use Prim.Native.Nat.{_-_}
 use lib.ListN.{length}
 use borrow.Author.Tests.{not-true, not-false}
 use borrow.Author.Needs.{needs}
 use native.Mathlib.Omega.{arith}
-use Rattle.scene_file.specs.Laws.Blocks.{RowsLoop, rows-start, rows-done, rows-empty, rows-room, rows-add, rows-add-one, rows-add-place, rows-bad, rows-next}
-use Rattle.scene_file.specs.Laws.Numbers.{position-count}
+use Rattle.scene_file.proofs.laws.Blocks.{RowsLoop, rows-start, rows-done, rows-empty, rows-room, rows-add, rows-add-one, rows-add-place, rows-bad, rows-next}
+use Rattle.scene_file.proofs.laws.Numbers.{position-count}
 use Rattle.scene_file.proofs.grammar.rows.Statement.{statement}
 use Rattle.scene_file.proofs.grammar.rows.Tie as tie
 

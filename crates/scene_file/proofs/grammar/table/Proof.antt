@@ -1,9 +1,9 @@
 -- `table` meets its contract: the names line, and then what `rows` reads. Assumes nothing.
 use borrow.Author.Tests.{not-true, not-false}
 use native.Mathlib.Omega.{arith}
-use Rattle.scene_file.specs.Laws.Layout.{block-past, block-none, block-other, block-read, block-within, block-add, block-add-one}
-use Rattle.scene_file.specs.Laws.Numbers.{position-count}
 use borrow.Author.Needs.{needs}
+use Rattle.scene_file.proofs.laws.Layout.{block-past, block-none, block-other, block-read, block-within, block-add, block-add-one}
+use Rattle.scene_file.proofs.laws.Numbers.{position-count}
 use Rattle.scene_file.proofs.grammar.table.Statement.{statement}
 use Rattle.scene_file.proofs.grammar.table.Tie as tie
 

@@ -1,11 +1,11 @@
 -- `find` meets its contract: the bytes passed are others, so the place is as far again from here. Assumes nothing.
-use mathlib.Core.Path.{_≡_, refl, sym, _∙_, ap}
+use mathlib.Core.Path.{_≡_}
 use Prim.Native.Nat.{_≤_, _+_, _-_}
 use lib.ListN.{length, drop}
 use borrow.Author.Needs.{needs}
 use native.Mathlib.Omega.{arith}
 use Rattle.scene_file.specs.Readings.{positionOf}
-use Rattle.scene_file.specs.Laws.Numbers.{position-none, position-found, position-passed}
+use Rattle.scene_file.proofs.laws.Numbers.{position-none, position-found, position-passed}
 use Rattle.scene_file.proofs.numbers.find.Statement.{statement}
 use Rattle.scene_file.proofs.numbers.find.Tie as tie
 

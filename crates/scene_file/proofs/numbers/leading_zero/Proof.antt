@@ -1,6 +1,6 @@
 -- `leading_zero` meets its contract. Assumes nothing.
-use Rattle.scene_file.specs.Laws.Numbers.{no-leading-zero, leading-zero}
 use borrow.Author.Needs.{needs}
+use Rattle.scene_file.proofs.laws.Numbers.{no-leading-zero, leading-zero}
 use Rattle.scene_file.proofs.numbers.leading_zero.Statement.{statement}
 use Rattle.scene_file.proofs.numbers.leading_zero.Tie as tie
 

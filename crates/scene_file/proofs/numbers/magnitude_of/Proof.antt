@@ -6,7 +6,7 @@ use borrow.Author.Needs.{needs}
 use native.Mathlib.Omega.{arith}
 use Rattle.scene_tables.specs.Bytes.{all}
 use Rattle.scene_file.specs.Grammar.{isDigit, digitsAfter}
-use Rattle.scene_file.specs.Laws.Numbers.{magnitude-low, magnitude-high, magnitude-large, magnitude-done, all-passed, digits-passed}
+use Rattle.scene_file.proofs.laws.Numbers.{magnitude-low, magnitude-high, magnitude-large, magnitude-done, all-passed, digits-passed}
 use Rattle.scene_file.proofs.numbers.magnitude_of.Statement.{statement}
 use Rattle.scene_file.proofs.numbers.magnitude_of.Tie as tie
 

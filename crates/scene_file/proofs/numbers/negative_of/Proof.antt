@@ -1,6 +1,6 @@
 -- `negative_of` meets its contract: each case of the magnitude is one of the definition's. Assumes nothing.
-use Rattle.scene_file.specs.Laws.Numbers.{negative-empty, negative-zero, negative-is, negative-large, negative-naught, negative-none}
 use borrow.Author.Needs.{needs}
+use Rattle.scene_file.proofs.laws.Numbers.{negative-empty, negative-zero, negative-is, negative-large, negative-naught, negative-none}
 use Rattle.scene_file.proofs.numbers.negative_of.Statement.{statement}
 use Rattle.scene_file.proofs.numbers.negative_of.Tie as tie
 

@@ -1,6 +1,6 @@
 -- `number_of` meets its contract. Assumes nothing.
-use Rattle.scene_file.specs.Laws.Numbers.{number-empty, number-negative, number-positive}
 use borrow.Author.Needs.{needs}
+use Rattle.scene_file.proofs.laws.Numbers.{number-empty, number-negative, number-positive}
 use Rattle.scene_file.proofs.numbers.number_of.Statement.{statement}
 use Rattle.scene_file.proofs.numbers.number_of.Tie as tie
 

@@ -1,6 +1,6 @@
 -- `positive_of` meets its contract: each case of the magnitude is one of the definition's. Assumes nothing.
-use Rattle.scene_file.specs.Laws.Numbers.{positive-empty, positive-zero, positive-is, positive-large, positive-none}
 use borrow.Author.Needs.{needs}
+use Rattle.scene_file.proofs.laws.Numbers.{positive-empty, positive-zero, positive-is, positive-large, positive-none}
 use Rattle.scene_file.proofs.numbers.positive_of.Statement.{statement}
 use Rattle.scene_file.proofs.numbers.positive_of.Tie as tie
 

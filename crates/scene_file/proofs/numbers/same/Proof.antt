@@ -4,13 +4,13 @@ use Prim.Native.Nat.{_≤_, _-_}
 use lib.ListN.{length, drop}
 use borrow.Author.Needs.{needs}
 use native.Mathlib.Omega.{arith}
-use Rattle.scene_tables.specs.Bytes.{same}
-use Rattle.scene_file.specs.Laws.Numbers.{same-short, same-differs, same-passed, same-all}
+use Rattle.scene_file.proofs.laws.Numbers.{same-short, same-differs, same-passed, same-all}
 use Rattle.scene_file.proofs.numbers.same.Statement.{statement}
+use Rattle.scene_tables.specs.Bytes.{sameBytes}
 use Rattle.scene_file.proofs.numbers.same.Tie as tie
 
 abbrev Inv-loop : tie.InvT-loop
-Inv-loop a b i₀ i = (i ≤ length a) × (length a ≡ length b) × (same (drop i a) (drop i b) ≡ same a b)
+Inv-loop a b i₀ i = (i ≤ length a) × (length a ≡ length b) × (sameBytes (drop i a) (drop i b) ≡ sameBytes a b)
 
 abbrev μ-loop : tie.MeasureT-loop
 μ-loop a b i₀ i = length a - i

@@ -3,8 +3,9 @@ use mathlib.Core.Path.{_≡_}
 use Prim.Native.Nat.{_+_, _≤_, _-_}
 use borrow.Author.Needs.{needs}
 use native.Mathlib.Omega.{arith}
-use Rattle.laws.specs.Count.{counted, count-none, count-turn}
-use Rattle.scene_questions.specs.SamplesLaws.{isRefused, refusedFrom, count-small, count-done}
+use Rattle.laws.specs.Count.{counted}
+use Rattle.laws.proofs.laws.Count.{count-none, count-turn}
+use Rattle.scene_questions.proofs.laws.Samples.{isRefused, refusedFrom, count-small, count-done}
 use Rattle.scene_questions.proofs.samples.refused.Statement.{statement}
 use Rattle.scene_questions.proofs.samples.refused.Tie as tie
 

@@ -4,10 +4,10 @@ use mathlib.Core.Bool.{true}
 use Prim.Native.Nat.{_≤_, _-_}
 use borrow.Author.Needs.{needs}
 use native.Mathlib.Omega.{arith}
-use Rattle.scene_tables.specs.Bytes.{every}
 use lib.ListN.{length}
-use Rattle.scene_questions.specs.Laws.Tracks.{sampleTest, samples-none, samples-done}
-use Rattle.scene_questions.specs.SamplesLaws.{run-passed, run-failed}
+use Rattle.scene_tables.specs.Bytes.{every}
+use Rattle.scene_questions.proofs.laws.Tracks.{sampleTest, samples-none, samples-done}
+use Rattle.scene_questions.proofs.laws.Samples.{run-passed, run-failed}
 use Rattle.scene_questions.proofs.samples.samples_ok.Statement.{statement}
 use Rattle.scene_questions.proofs.samples.samples_ok.Tie as tie
 

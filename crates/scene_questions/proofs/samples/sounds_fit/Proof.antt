@@ -1,14 +1,14 @@
 -- `sounds_fit` meets its contract: every sound passed so far fits. Assumes nothing.
 use mathlib.Core.Path.{_≡_}
 use mathlib.Core.Bool.{true}
-use Prim.Native.Nat.{_≤_, _-_, _/_, _%_}
+use Prim.Native.Nat.{_≤_, _-_, _/_}
 use lib.ListN.{length}
 use borrow.Author.Needs.{needs}
 use native.Mathlib.Omega.{arith}
 use Rattle.scene_tables.specs.Bytes.{every}
 use Rattle.scene_questions.specs.Questions.{soundFits}
 use Rattle.scene_questions.specs.Places.{rowsIn}
-use Rattle.scene_questions.specs.Laws.Tracks.{sounds-odd, sounds-none, sounds-failed, sounds-passed, sounds-done}
+use Rattle.scene_questions.proofs.laws.Tracks.{sounds-odd, sounds-none, sounds-failed, sounds-passed, sounds-done}
 use Rattle.scene_questions.proofs.samples.sounds_fit.Statement.{statement}
 use Rattle.scene_questions.proofs.samples.sounds_fit.Tie as tie
 

@@ -6,7 +6,7 @@ use borrow.Author.Needs.{needs}
 use native.Mathlib.Omega.{arith}
 use Rattle.scene_tables.specs.Bytes.{every}
 use Rattle.scene_questions.specs.Places.{rowsIn}
-use Rattle.scene_questions.specs.Laws.Tracks.{pairTest, pairs-none, pairs-failed, pairs-passed, pairs-done}
+use Rattle.scene_questions.proofs.laws.Tracks.{pairTest, pairs-none, pairs-failed, pairs-passed, pairs-done}
 use Rattle.scene_questions.proofs.tracks.new_pair.Statement.{statement}
 use Rattle.scene_questions.proofs.tracks.new_pair.Tie as tie
 

@@ -1,11 +1,10 @@
 -- `within_depth` meets its contract: what is asked of the line reached, with the depth left, is what is asked of the track. Assumes nothing.
 use mathlib.Core.Path.{_≡_, refl}
-use Prim.Native.Nat.{_≤_}
 use borrow.Author.Needs.{needs}
 use native.Mathlib.Omega.{arith}
 use Rattle.scene_questions.specs.Questions.{withinDepth}
 use Rattle.scene_questions.specs.Places.{rowsIn}
-use Rattle.scene_questions.specs.Laws.Tracks.{depth-mixer, depth-next, depth-done}
+use Rattle.scene_questions.proofs.laws.Tracks.{depth-mixer, depth-next, depth-done}
 use Rattle.scene_questions.proofs.tracks.within_depth.Statement.{statement}
 use Rattle.scene_questions.proofs.tracks.within_depth.Tie as tie
 

@@ -1,8 +1,8 @@
 -- `rule_of` gives the rule of a table: the code's list is that of Tables.antt. Assumes nothing.
 use lib.ListN.{List·getD-map}
+use borrow.Author.Needs.{needs}
 use Rattle.scene_tables.specs.Tables.{tables, noTable, width}
 use Rattle.scene_tables.specs.InCode.{ruleOf}
-use borrow.Author.Needs.{needs}
 use Rattle.scene_tables.proofs.tables.rule_of.Statement.{statement}
 use Rattle.scene_tables.proofs.tables.rule_of.Tie as tie
 

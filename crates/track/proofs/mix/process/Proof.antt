@@ -2,29 +2,21 @@ use mathlib.Core.Path.{sym, ap, _∙_, subst}
 use Prim.Native.Nat.{ℕ, _*_, _≤_}
 use lib.ListN.{length, length-replicate}
 use lib.Ieee.{binary32, ofBits}
-use Rattle.track.specs.declared.chunk.Chunk.{Chunk}
-use Rattle.track.specs.Frame.{withFrames}
-use Rattle.track.specs.Chunk.{ChunkOk, IsParts}
-use Rattle.track.specs.FlatLaws.{chunk-from}
-use Rattle.track.specs.Mix.{mixedSet}
 use borrow.Author.Needs.{needs}
+use Rattle.chunk.specs.declared.chunk.Chunk.{Chunk}
+use Rattle.frame.specs.Frame.{withFrames}
+use Rattle.chunk.specs.Chunk.{ChunkOk, IsParts}
+use Rattle.chunk.proofs.laws.Flat.{chunk-from}
+use Rattle.track.specs.Mix.{mixedSet}
 use Rattle.track.proofs.mix.process.Statement.{statement}
 use Rattle.track.proofs.mix.process.Tie as tie
-use Rattle.track.proofs.mix.process.Reads as reads
-use Rattle.track.proofs.mix.process.Lts as lts
-use Rattle.track.proofs.chunk.parts_of.Reads as parts-of-reads
-use Rattle.track.proofs.flat.flatten.Reads as flatten-reads
-use Rattle.track.proofs.mix.process_flat.Reads as process-flat-reads
 
--- src/mix.rt:124:5
 flatten-requires : tie.Need-flatten-requires
 flatten-requires c κs = (length-replicate {A = ℕ} 389 0, length-replicate 210 (ofBits binary32 0))
 
--- src/mix.rt:126:17
 parts-of-requires : tie.Need-parts-of-requires
 parts-of-requires c κs = search needs
 
--- src/mix.rt:127:5
 process-flat-requires : tie.Need-process-flat-requires
 process-flat-requires c κs =
     let start = c .before .before .before .before .before .before .before .before .before .before in
@@ -36,11 +28,9 @@ process-flat-requires c κs =
       (subst (λ (x : Chunk). ChunkOk x (start .args .samples .now)) is ok, (subst (λ (x : Chunk). IsParts (x .frames) (parts .result)) is (parts .ensures), subst (λ (x : Chunk). 2 * x .frames ≤ length (start .args .out .now)) is (start .pre .1 .1))),
     )
 
--- src/mix.rt:116:1
 same-length : tie.Need-same-length
 same-length c = search needs
 
--- src/mix.rt:116:1
 returns : tie.Need-returns
 returns c =
     let start = c .before .before .before .before .before .before .before .before .before .before .before .before .before in

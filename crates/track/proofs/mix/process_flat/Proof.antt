@@ -2,54 +2,39 @@ use mathlib.Core.Path.{sym, ap, _∙_, subst}
 use native.Mathlib.Omega.{arith}
 use lib.Ieee.{binary32, ofBits, ofInt}
 use lib.ListN.{replicate, length-replicate}
-use Rattle.track.specs.declared.chunk.Level.{Level}
-use Rattle.track.specs.Chunk.{LevelInRange}
-use Rattle.track.specs.Frame.{withFrames}
-use Rattle.track.specs.Flat.{chunkFrom}
+use borrow.Author.Needs.{needs}
+use Rattle.chunk.specs.declared.chunk.Level.{Level}
+use Rattle.chunk.specs.Chunk.{LevelInRange}
+use Rattle.frame.specs.Frame.{withFrames}
+use Rattle.chunk.specs.Flat.{chunkFrom}
 use Rattle.track.specs.Sound.{withSounds}
 use Rattle.track.specs.Send.{levelScaled}
 use Rattle.track.specs.Sub.{sendFrames}
 use Rattle.track.specs.Mix.{tracksSet, withAllSends, withSendTracks}
-use Rattle.track.specs.FrameLaws.{kept}
-use Rattle.track.specs.OwnersLaws.{tracks-linked, sounds-linked}
-use Rattle.track.specs.MixLaws.{chunk-mixed}
-use borrow.Author.Needs.{needs}
+use Rattle.frame.proofs.laws.Frame.{kept}
+use Rattle.track.proofs.laws.Owners.{tracks-linked, sounds-linked}
+use Rattle.track.proofs.laws.Mix.{chunk-mixed}
 use Rattle.track.proofs.mix.process_flat.Statement.{statement}
 use Rattle.track.proofs.mix.process_flat.Tie as tie
-use Rattle.track.proofs.mix.process_flat.Reads as reads
-use Rattle.track.proofs.mix.process_flat.Lts as lts
-use Rattle.links.proofs.links_of.Reads as links-of-reads
-use Rattle.track.proofs.flat.main_level.Reads as main-level-reads
-use Rattle.track.proofs.mix.add_sends.Reads as add-sends-reads
-use Rattle.track.proofs.mix.process_tracks.Reads as process-tracks-reads
-use Rattle.track.proofs.send.apply_level.Reads as apply-level-reads
-use Rattle.track.proofs.sound.add_sounds.Reads as add-sounds-reads
 
--- src/mix.rt:120:18
 element-copy-out-frames : tie.Need-element-copy-out-frames
 element-copy-out-frames c = search needs
 
--- src/mix.rt:121:48
 element-copy-out-links-of : tie.Need-element-copy-out-links-of
 element-copy-out-links-of c = search needs
 
--- src/mix.rt:121:22
 links-of-requires : tie.Need-links-of-requires
 links-of-requires c κs = search needs
 
--- src/mix.rt:122:49
 element-copy-out-links-of-2 : tie.Need-element-copy-out-links-of-2
 element-copy-out-links-of-2 c = search needs
 
--- src/mix.rt:122:18
 links-of-requires-2 : tie.Need-links-of-requires-2
 links-of-requires-2 c κs = search needs
 
--- src/mix.rt:132:9
 slice-aggregate-process-tracks : tie.Need-slice-aggregate-process-tracks
 slice-aggregate-process-tracks c = search needs
 
--- src/mix.rt:123:5
 process-tracks-requires : tie.Need-process-tracks-requires
 process-tracks-requires c κs =
     let start = c .before .before .before .before .before .before .before .before .before .before .before in
@@ -59,11 +44,9 @@ process-tracks-requires c κs =
     let values = args .values .now in
     (start .pre .0, (ok, ((tracks-linked places values (ok .tracks) (c .before .before .before .before .before .before .links-of .ensures), sounds-linked places values (ok .sounds) (c .before .before .before .before .links-of2 .ensures)), (start .pre .1 .1 .0, (start .pre .1 .1 .1, length-replicate 4096 (ofBits binary32 0))))))
 
--- src/mix.rt:134:54
 slice-aggregate-add-sends : tie.Need-slice-aggregate-add-sends
 slice-aggregate-add-sends c = search needs
 
--- src/mix.rt:134:5
 add-sends-requires : tie.Need-add-sends-requires
 add-sends-requires c κs =
     let start = c .before .before .before .before .before .before .before .before .before .before .before .before .before .before .before .before .before in
@@ -74,7 +57,6 @@ add-sends-requires c κs =
     let a = kept (tracksSet chunk samples) (chunk .frames) (args .out .now) (t .0) in
     (start .pre .0, (start .pre .1 .0, (start .pre .1 .1 .0, (omega (arith, a, start .pre .1 .1 .1), kept (withAllSends chunk samples) sendFrames (replicate 4096 (ofBits binary32 0)) (t .1) ∙ length-replicate 4096 (ofBits binary32 0)))))
 
--- src/mix.rt:135:5
 add-sounds-requires : tie.Need-add-sounds-requires
 add-sounds-requires c κs =
     let start = c .before .before .before .before .before .before .before .before .before .before .before .before .before .before .before .before .before .before .before .before .before .before in
@@ -88,11 +70,9 @@ add-sounds-requires c κs =
     let b = kept (withSendTracks chunk (tracks .last .1 .1 .1 .1 .1 .1 .1 .1 .0)) (chunk .frames) (tracks .last .1 .1 .1 .1 .1 .1 .1 .0) (sent .ensures) in
     (ok, (sounds-linked (args .places .now) (args .values .now) (ok .sounds) (c .before .before .before .before .before .before .before .before .before .before .before .before .before .before .before .links-of2 .ensures), (omega (arith, a, b, start .pre .1 .1 .1), omega arith)))
 
--- src/mix.rt:136:9
 main-level-requires : tie.Need-main-level-requires
 main-level-requires c κs = search needs
 
--- src/mix.rt:137:5
 apply-level-requires : tie.Need-apply-level-requires
 apply-level-requires c κs =
     let start = c .before .before .before .before .before .before .before .before .before .before .before .before .before .before .before .before .before .before .before .before .before .before .before .before .before .before .before in
@@ -108,11 +88,9 @@ apply-level-requires c κs =
     let ok = start .pre .1 .0 in
     (start .pre .0, ((ok .short, omega (arith, a, b, d, start .pre .1 .1 .1)), (subst LevelInRange (sym (c .before .main-level .ensures)) (ok .mainLevel), start .pre .1 .1 .0)))
 
--- src/mix.rt:105:1
 same-length : tie.Need-same-length
 same-length c = search needs
 
--- src/mix.rt:105:1
 returns : tie.Need-returns
 unfolding ofBits ofInt
 returns c =

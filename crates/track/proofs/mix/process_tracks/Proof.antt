@@ -5,28 +5,25 @@ use native.Mathlib.Omega.{arith}
 use lib.ListN.{length}
 use lib.Ieee.{Float}
 use borrow.Author.Needs.{needs}
-use Rattle.track.specs.declared.chunk.Chunk.{Chunk}
-use Rattle.track.specs.Frame.{withFrames, cleared}
-use Rattle.track.specs.Chunk.{trackLine}
-use Rattle.track.specs.Flat.{chunkFrom}
+use Rattle.chunk.specs.declared.chunk.Chunk.{Chunk}
+use Rattle.frame.specs.Frame.{withFrames, cleared}
+use Rattle.chunk.specs.Flat.{chunkFrom}
 use Rattle.track.specs.Sub.{sendFrames}
 use Rattle.track.specs.Mix.{levels}
-use Rattle.track.specs.FrameLaws.{kept}
-use Rattle.track.specs.TurnLaws.{turn-length}
+use Rattle.frame.proofs.laws.Frame.{kept}
+use Rattle.frame.proofs.laws.Turn.{turn-length}
 use Rattle.track.specs.Owners.{subTrackLinks}
-use Rattle.track.specs.OwnersLaws.{Follows, follow-start, follow-less, follow-turn, follow-done}
-use Rattle.track.specs.SubLaws.{subStep, subSend, sub-taken, sub-left, send-taken, send-left, sub-done, send-done, subSum}
-use Rattle.track.specs.Running.{AllRunning, running-cleared, running-track}
-use Rattle.track.specs.MixLaws.{tracks-mixed, all-sends}
+use Rattle.track.proofs.laws.Owners.{Follows, follow-start, follow-less, follow-turn, follow-done}
+use Rattle.track.proofs.laws.Sub.{subStep, subSend, sub-taken, sub-left, send-taken, send-left, sub-done, send-done, subSum}
+use Rattle.frame.specs.Running.{AllRunning}
+use Rattle.track.proofs.laws.Running.{running-cleared, running-track}
+use Rattle.track.proofs.laws.Mix.{tracks-mixed, all-sends}
 use Rattle.track.proofs.mix.process_tracks.Statement.{statement}
+use Rattle.chunk.specs.Chunk.{trackRow}
 use Rattle.track.proofs.mix.process_tracks.Tie as tie
-use Rattle.track.proofs.mix.process_tracks.Reads as reads
-use Rattle.track.proofs.mix.process_tracks.Lts as lts
-use Rattle.track.proofs.frame.clear.Reads as clear-reads
-use Rattle.track.proofs.sub.process.Reads as process-reads
 
 abbrev parent : Chunk → ℕ → ℕ
-parent c k = trackLine c k .parent
+parent c k = trackRow c k .parent
 
 abbrev Inv : Chunk → List Float → List Float → List Float → List Float → List Float → ℕ → Type 0
 Inv chunk samples out₀ sends₀ out sends j = (length out ≡ length out₀) × (length sends ≡ length sends₀) × Follows (subStep levels chunk samples 0) (chunk .frames) (chunk .«track_count») (parent chunk) 0 out₀ out j × Follows (subSend levels chunk samples 0) sendFrames (chunk .«track_count») (parent chunk) 0 sends₀ sends j × AllRunning (chunk .frames) out
@@ -37,19 +34,15 @@ Inv-loop places values sub-tracks sounds parts table samples out₀ sends₀ fra
 abbrev μ-loop : tie.MeasureT-loop
 μ-loop places values sub-tracks sounds parts table samples out₀ sends₀ frames j₀ out sends j = j
 
--- src/mix.rt:55:18
 element-copy-out-frames : tie.Need-element-copy-out-frames Inv-loop μ-loop
 element-copy-out-frames c = search needs
 
--- src/mix.rt:56:5
 clear-requires : tie.Need-clear-requires Inv-loop μ-loop
 clear-requires c κs = search needs
 
--- src/mix.rt:57:17
 element-copy-out-j : tie.Need-element-copy-out-j Inv-loop μ-loop
 element-copy-out-j c = search needs
 
--- src/mix.rt:58:5
 loop-holds : tie.Need-loop-holds Inv-loop μ-loop
 unfolding subTrackLinks
 loop-holds c =
@@ -65,7 +58,6 @@ loop-holds c =
       running-cleared (chunk .frames) (args .out .now) (start .pre .1 .1 .1 .1 .0) (c .before .before .before .clear .ensures),
     )
 
--- src/mix.rt:59:9
 process-requires : tie.Need-process-requires Inv-loop μ-loop
 process-requires c κs =
     let start = c .before .before .before .before .before .before .before .before .before .before .before .before .before in
@@ -76,19 +68,15 @@ process-requires c κs =
     let cleared-length = kept cleared (chunk .frames) (args .out .now) (c .before .before .before .before .before .before .before .clear .ensures) in
     (start .pre .0, (ok, (start .pre .1 .1 .0, (start .pre .1 .1 .1 .0, ((c .before .before .loop-test .taken, inv .2 .few), (omega (arith, inv .0, cleared-length, start .pre .1 .1 .1 .1 .0), (inv .1 ∙ start .pre .1 .1 .1 .1 .1, inv .4)))))))
 
--- src/mix.rt:72:24
 add-j : tie.Need-add-j Inv-loop μ-loop
 add-j c = search (needs, c .before .before .before .before .before .before .before .before .loop .inv .2 .few, c .before .before .before .before .before .before .before .before .before .before .before .before .before .before .before .before .before .before .pre .1 .0 .tracks)
 
--- src/mix.rt:72:13
 mul-j : tie.Need-mul-j Inv-loop μ-loop
 mul-j c = search (needs, c .before .before .before .before .before .before .before .before .loop .inv .2 .few, c .before .before .before .before .before .before .before .before .before .before .before .before .before .before .before .before .before .before .pre .1 .0 .tracks)
 
--- src/mix.rt:72:13
 element-copy-out-j-2 : tie.Need-element-copy-out-j-2 Inv-loop μ-loop
 element-copy-out-j-2 c = omega (arith, c .before .before .before .before .before .before .before .before .loop .inv .2 .few, c .before .before .before .before .before .before .before .before .before .before .before .before .before .before .before .before .before .before .pre .1 .0 .tracks)
 
--- src/mix.rt:58:5
 loop-less : tie.Need-loop-less Inv-loop μ-loop
 unfolding subTrackLinks
 loop-less c =
@@ -104,7 +92,6 @@ loop-less c =
     let room : chunk .«track_count» ≤ 64 = omega (arith, start .pre .1 .0 .tracks) in
     follow-less (subStep levels chunk samples 0) (chunk .frames) (chunk .«track_count») (parent chunk) 0 _ j (l .loop .out) room (omega arith) owned h (inv .2)
 
--- src/mix.rt:58:5
 loop-again : tie.Need-loop-again Inv-loop μ-loop
 unfolding subTrackLinks
 loop-again c =
@@ -131,15 +118,12 @@ loop-again c =
       running-track (chunk .frames) (l .loop .out) (omega (arith, inv .0, cleared-length, start .pre .1 .1 .1 .1 .0)) levels chunk samples j (inv .4) (c .before .before .before .before .before .process .ensures .0),
     )
 
--- src/mix.rt:35:1
 same-length : tie.Need-same-length Inv-loop μ-loop
 same-length c = search needs
 
--- src/mix.rt:35:1
 same-length-2 : tie.Need-same-length-2 Inv-loop μ-loop
 same-length-2 c = search needs
 
--- src/mix.rt:35:1
 returns : tie.Need-returns Inv-loop μ-loop
 returns c =
     let start = c .before .before .before .before .before .before .before .before .before .before .before in

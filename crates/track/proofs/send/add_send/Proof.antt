@@ -5,22 +5,12 @@ use native.Mathlib.Omega.{arith}
 use lib.ListN.{length, replicate, length-replicate}
 use lib.Ieee.{Float, binary32, ofBits}
 use borrow.Author.Needs.{needs}
-use Rattle.track.specs.declared.frame.Frame.{Frame}
-use Rattle.track.specs.Frame.{withFrames, added, scaled}
-use Rattle.track.specs.FrameLaws.{withFrames-zero, withFrames-put, withFrames-end}
-use Rattle.track.specs.SteadyLaws.{factorOf, sentEach, send-each}
+use Rattle.frame.specs.declared.frame.Frame.{Frame}
+use Rattle.frame.specs.Frame.{withFrames, added, scaled}
+use Rattle.frame.proofs.laws.Frame.{withFrames-zero, withFrames-put, withFrames-end}
+use Rattle.track.proofs.laws.Steady.{factorOf, sentEach, send-each}
 use Rattle.track.proofs.send.add_send.Statement.{statement}
 use Rattle.track.proofs.send.add_send.Tie as tie
-use Rattle.track.proofs.send.add_send.Reads as reads
-use Rattle.track.proofs.send.add_send.Lts as lts
-use Rattle.track.proofs.chunk.Level.amplitudes.Reads as amplitudes-reads
-use Rattle.track.proofs.chunk.Level.is_steady.Reads as is-steady-reads
-use Rattle.track.proofs.frame.Frame.added.Reads as added-reads
-use Rattle.track.proofs.frame.Frame.scaled.Reads as scaled-reads
-use Rattle.track.proofs.frame.Frame.zero.Reads as zero-reads
-use Rattle.track.proofs.frame.frame_at.Reads as frame-at-reads
-use Rattle.track.proofs.frame.put_frame.Reads as put-frame-reads
-use Rattle.track.proofs.send.add_steady_send.Reads as add-steady-send-reads
 
 -- what the factors' array holds at first
 abbrev empty : List Float
@@ -32,83 +22,64 @@ Inv-loop out₀ inputs first frames parts table factors i₀ out i = (i ≤ fram
 abbrev μ-loop : tie.MeasureT-loop
 μ-loop out₀ inputs first frames parts table factors i₀ out i = frames - i
 
--- src/send.rt:90:8
 is-steady-requires : tie.Need-is-steady-requires Inv-loop μ-loop
 is-steady-requires c κs = search needs
 
--- src/send.rt:91:9
 add-steady-send-requires : tie.Need-add-steady-send-requires Inv-loop μ-loop
 add-steady-send-requires c κs =
     let pre = c .before .before .before .before .before .pre in
     (pre .0, (pre .1 .0, (pre .1 .1 .0, (pre .1 .1 .1 .0, sym (c .before .before .is-steady .ensures) ∙ c .before .if1 .taken))))
 
--- src/send.rt:92:9
 same-length : tie.Need-same-length Inv-loop μ-loop
 same-length c = search needs
 
--- src/send.rt:92:9
 returns : tie.Need-returns Inv-loop μ-loop
 returns c = search needs
 
--- src/send.rt:95:5
 amplitudes-requires : tie.Need-amplitudes-requires Inv-loop μ-loop
 amplitudes-requires c κs =
     let pre = c .before .before .before .before .before .pre in
     (pre .0, (pre .1 .1 .1 .0, (pre .1 .0 .0, pre .1 .1 .1 .1)))
 
--- src/send.rt:97:5
 loop-holds : tie.Need-loop-holds Inv-loop μ-loop
 loop-holds c = (search needs, refl, sym (withFrames-zero _ _))
 
--- src/send.rt:98:21
 zero-requires : tie.Need-zero-requires Inv-loop μ-loop
 zero-requires c κs = search needs
 
--- src/send.rt:98:58
 add-frame-at : tie.Need-add-frame-at Inv-loop μ-loop
 add-frame-at c = search needs
 
--- src/send.rt:98:41
 frame-at-requires : tie.Need-frame-at-requires Inv-loop μ-loop
 frame-at-requires c κs = search needs
 
--- src/send.rt:98:13
 added-requires : tie.Need-added-requires Inv-loop μ-loop
 added-requires c κs = search needs
 
--- src/send.rt:99:44
 mul-t21 : tie.Need-mul-t21 Inv-loop μ-loop
 mul-t21 c = search needs
 
--- src/send.rt:99:44
 array-read-t24 : tie.Need-array-read-t24 Inv-loop μ-loop
 array-read-t24 c = search needs
 
--- src/send.rt:99:13
 scaled-requires : tie.Need-scaled-requires Inv-loop μ-loop
 scaled-requires c κs = search needs
 
--- src/send.rt:100:27
 frame-at-requires-2 : tie.Need-frame-at-requires-2 Inv-loop μ-loop
 frame-at-requires-2 c κs = search needs
 
--- src/send.rt:100:27
 added-requires-2 : tie.Need-added-requires-2 Inv-loop μ-loop
 added-requires-2 c κs = search needs
 
--- src/send.rt:100:9
 put-frame-requires : tie.Need-put-frame-requires Inv-loop μ-loop
 put-frame-requires c κs = omega (arith, c .before .before .before .before .before .before .before .before .loop-test .taken, c .before .before .before .before .before .before .before .before .before .loop .inv .1, c .before .before .before .before .before .before .before .before .before .before .before .before .before .before .before .before .pre .1 .0 .1)
 
--- src/send.rt:101:9
 add-i : tie.Need-add-i Inv-loop μ-loop
 add-i c = search (needs, c .before .before .before .before .before .before .before .before .before .before .before .loop-test .taken, c .before .before .before .before .before .before .before .before .before .before .before .before .before .before .before .before .before .before .before .pre .1 .0 .0)
 
--- src/send.rt:97:5
 loop-less : tie.Need-loop-less Inv-loop μ-loop
 loop-less c = search needs
 
--- src/send.rt:97:5
 loop-again : tie.Need-loop-again Inv-loop μ-loop
 loop-again c =
     let l = c .before .before .before .before .before .before .before .before .before .before .before .before in
@@ -122,11 +93,9 @@ loop-again c =
     let e = withFrames-put (sentEach (args .inputs .now) (args .first) factors) (l .loop .i) (args .out .now) (omega (arith, h, start .pre .1 .0 .1)) (inv .1) (inv .2) (c .before .before .before .added2 .ensures ∙ ap₂ added (c .before .before .before .before .frame-at2 .ensures) frame) (c .before .before .put-frame .ensures) in
     (omega (arith, h, inv .0), e .0, e .1)
 
--- src/send.rt:74:1
 same-length-2 : tie.Need-same-length-2 Inv-loop μ-loop
 same-length-2 c = search needs
 
--- src/send.rt:74:1
 returns-2 : tie.Need-returns-2 Inv-loop μ-loop
 returns-2 c =
     let l = c .before in

@@ -1,22 +1,14 @@
-use Rattle.track.specs.declared.frame.Frame.{Frame}
 use mathlib.Core.Path.{_≡_, refl, sym, ap, ap₂, _∙_}
 use Prim.Native.Nat.{_-_, _≤_}
 use native.Mathlib.Omega.{arith}
 use lib.ListN.{length}
 use borrow.Author.Needs.{needs}
-use Rattle.track.specs.Frame.{withFrames, added, scaled}
-use Rattle.track.specs.FrameLaws.{withFrames-zero, withFrames-put, withFrames-end}
-use Rattle.track.specs.SteadyLaws.{sent, send-steady}
+use Rattle.frame.specs.declared.frame.Frame.{Frame}
+use Rattle.frame.specs.Frame.{withFrames, added, scaled}
+use Rattle.frame.proofs.laws.Frame.{withFrames-zero, withFrames-put, withFrames-end}
+use Rattle.track.proofs.laws.Steady.{sent, send-steady}
 use Rattle.track.proofs.send.add_steady_send.Statement.{statement}
 use Rattle.track.proofs.send.add_steady_send.Tie as tie
-use Rattle.track.proofs.send.add_steady_send.Reads as reads
-use Rattle.track.proofs.send.add_steady_send.Lts as lts
-use Rattle.track.proofs.chunk.Level.steady_amplitude.Reads as steady-amplitude-reads
-use Rattle.track.proofs.frame.Frame.added.Reads as added-reads
-use Rattle.track.proofs.frame.Frame.scaled.Reads as scaled-reads
-use Rattle.track.proofs.frame.Frame.zero.Reads as zero-reads
-use Rattle.track.proofs.frame.frame_at.Reads as frame-at-reads
-use Rattle.track.proofs.frame.put_frame.Reads as put-frame-reads
 
 abbrev Inv-loop : tie.InvT-loop
 Inv-loop out₀ inputs first frames table factor i₀ out i = (i ≤ frames) × (length out ≡ length out₀) × (out ≡ withFrames (sent inputs first factor) i out₀)
@@ -24,55 +16,42 @@ Inv-loop out₀ inputs first frames table factor i₀ out i = (i ≤ frames) × 
 abbrev μ-loop : tie.MeasureT-loop
 μ-loop out₀ inputs first frames table factor i₀ out i = frames - i
 
--- src/send.rt:61:9
 steady-amplitude-requires : tie.Need-steady-amplitude-requires Inv-loop μ-loop
 steady-amplitude-requires c κs = search needs
 
--- src/send.rt:63:5
 loop-holds : tie.Need-loop-holds Inv-loop μ-loop
 loop-holds c = (search needs, refl, sym (withFrames-zero _ _))
 
--- src/send.rt:64:21
 zero-requires : tie.Need-zero-requires Inv-loop μ-loop
 zero-requires c κs = search needs
 
--- src/send.rt:64:58
 add-frame-at : tie.Need-add-frame-at Inv-loop μ-loop
 add-frame-at c = search needs
 
--- src/send.rt:64:41
 frame-at-requires : tie.Need-frame-at-requires Inv-loop μ-loop
 frame-at-requires c κs = search needs
 
--- src/send.rt:64:13
 added-requires : tie.Need-added-requires Inv-loop μ-loop
 added-requires c κs = search needs
 
--- src/send.rt:65:13
 scaled-requires : tie.Need-scaled-requires Inv-loop μ-loop
 scaled-requires c κs = search needs
 
--- src/send.rt:66:27
 frame-at-requires-2 : tie.Need-frame-at-requires-2 Inv-loop μ-loop
 frame-at-requires-2 c κs = search needs
 
--- src/send.rt:66:27
 added-requires-2 : tie.Need-added-requires-2 Inv-loop μ-loop
 added-requires-2 c κs = search needs
 
--- src/send.rt:66:9
 put-frame-requires : tie.Need-put-frame-requires Inv-loop μ-loop
 put-frame-requires c κs = omega (arith, c .before .before .before .before .before .before .before .before .loop-test .taken, c .before .before .before .before .before .before .before .before .before .loop .inv .1, c .before .before .before .before .before .before .before .before .before .before .before .before .before .pre .1 .0 .1)
 
--- src/send.rt:67:9
 add-i : tie.Need-add-i Inv-loop μ-loop
 add-i c = search (needs, c .before .before .before .before .before .before .before .before .before .before .before .loop-test .taken, c .before .before .before .before .before .before .before .before .before .before .before .before .before .before .before .before .pre .1 .0 .0)
 
--- src/send.rt:63:5
 loop-less : tie.Need-loop-less Inv-loop μ-loop
 loop-less c = search needs
 
--- src/send.rt:63:5
 loop-again : tie.Need-loop-again Inv-loop μ-loop
 loop-again c =
     let l = c .before .before .before .before .before .before .before .before .before .before .before .before in
@@ -86,11 +65,9 @@ loop-again c =
     let e = withFrames-put (sent (args .inputs .now) (args .first) factor) (l .loop .i) (args .out .now) (omega (arith, h, start .pre .1 .0 .1)) (inv .1) (inv .2) (c .before .before .before .added2 .ensures ∙ ap₂ added (c .before .before .before .before .frame-at2 .ensures) frame) (c .before .before .put-frame .ensures) in
     (omega (arith, h, inv .0), e .0, e .1)
 
--- src/send.rt:46:1
 same-length : tie.Need-same-length Inv-loop μ-loop
 same-length c = search needs
 
--- src/send.rt:46:1
 returns : tie.Need-returns Inv-loop μ-loop
 returns c =
     let l = c .before in

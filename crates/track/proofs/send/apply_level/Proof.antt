@@ -5,21 +5,12 @@ use native.Mathlib.Omega.{arith}
 use lib.ListN.{length, replicate, length-replicate}
 use lib.Ieee.{Float, binary32, ofBits}
 use borrow.Author.Needs.{needs}
-use Rattle.track.specs.declared.frame.Frame.{Frame}
-use Rattle.track.specs.Frame.{withFrames, scaled}
-use Rattle.track.specs.FrameLaws.{withFrames-zero, withFrames-put, withFrames-end}
-use Rattle.track.specs.SteadyLaws.{factorOf, scaledEach, level-steady, level-each}
+use Rattle.frame.specs.declared.frame.Frame.{Frame}
+use Rattle.frame.specs.Frame.{withFrames, scaled}
+use Rattle.frame.proofs.laws.Frame.{withFrames-zero, withFrames-put, withFrames-end}
+use Rattle.track.proofs.laws.Steady.{factorOf, scaledEach, level-steady, level-each}
 use Rattle.track.proofs.send.apply_level.Statement.{statement}
 use Rattle.track.proofs.send.apply_level.Tie as tie
-use Rattle.track.proofs.send.apply_level.Reads as reads
-use Rattle.track.proofs.send.apply_level.Lts as lts
-use Rattle.track.proofs.chunk.Level.amplitudes.Reads as amplitudes-reads
-use Rattle.track.proofs.chunk.Level.is_steady.Reads as is-steady-reads
-use Rattle.track.proofs.chunk.Level.steady_amplitude.Reads as steady-amplitude-reads
-use Rattle.track.proofs.frame.Frame.scaled.Reads as scaled-reads
-use Rattle.track.proofs.frame.frame_at.Reads as frame-at-reads
-use Rattle.track.proofs.frame.put_frame.Reads as put-frame-reads
-use Rattle.track.proofs.frame.scale.Reads as scale-reads
 
 -- what the factors' array holds at first
 abbrev empty : List Float
@@ -31,68 +22,53 @@ Inv-loop out₀ frames parts table factors i₀ out i = (i ≤ frames) × (lengt
 abbrev μ-loop : tie.MeasureT-loop
 μ-loop out₀ frames parts table factors i₀ out i = frames - i
 
--- src/send.rt:32:8
 is-steady-requires : tie.Need-is-steady-requires Inv-loop μ-loop
 is-steady-requires c κs = search needs
 
--- src/send.rt:33:13
 steady-amplitude-requires : tie.Need-steady-amplitude-requires Inv-loop μ-loop
 steady-amplitude-requires c κs = search needs
 
--- src/send.rt:34:9
 scale-requires : tie.Need-scale-requires Inv-loop μ-loop
 scale-requires c κs = search needs
 
--- src/send.rt:35:9
 same-length : tie.Need-same-length Inv-loop μ-loop
 same-length c = search needs
 
--- src/send.rt:35:9
 returns : tie.Need-returns Inv-loop μ-loop
 returns c =
     let start = c .before .before .before .before .before .before .before .before in
     let args = start .args in
     c .before .before .scale .ensures ∙ level-steady (args .frames) (start .pre .1 .0 .0) (args .level) (args .out .now) (sym (c .before .before .before .before .before .before .is-steady .ensures) ∙ c .before .before .before .before .before .if1 .taken) (start .pre .1 .1 .0) (c .before .before .before .before .steady-amplitude .ensures)
 
--- src/send.rt:38:5
 amplitudes-requires : tie.Need-amplitudes-requires Inv-loop μ-loop
 amplitudes-requires c κs =
     let pre = c .before .before .before .before .pre in
     (pre .0, (pre .1 .1 .0, (pre .1 .0 .0, pre .1 .1 .1)))
 
--- src/send.rt:40:5
 loop-holds : tie.Need-loop-holds Inv-loop μ-loop
 loop-holds c = (search needs, refl, sym (withFrames-zero _ _))
 
--- src/send.rt:41:21
 frame-at-requires : tie.Need-frame-at-requires Inv-loop μ-loop
 frame-at-requires c κs = search needs
 
--- src/send.rt:41:55
 mul-t20 : tie.Need-mul-t20 Inv-loop μ-loop
 mul-t20 c = search needs
 
--- src/send.rt:41:55
 array-read-t23 : tie.Need-array-read-t23 Inv-loop μ-loop
 array-read-t23 c = search needs
 
--- src/send.rt:41:13
 scaled-requires : tie.Need-scaled-requires Inv-loop μ-loop
 scaled-requires c κs = search needs
 
--- src/send.rt:42:9
 put-frame-requires : tie.Need-put-frame-requires Inv-loop μ-loop
 put-frame-requires c κs = search needs
 
--- src/send.rt:43:9
 add-i : tie.Need-add-i Inv-loop μ-loop
 add-i c = search needs
 
--- src/send.rt:40:5
 loop-less : tie.Need-loop-less Inv-loop μ-loop
 loop-less c = search needs
 
--- src/send.rt:40:5
 loop-again : tie.Need-loop-again Inv-loop μ-loop
 loop-again c =
     let l = c .before .before .before .before .before .before .before .before in
@@ -104,11 +80,9 @@ loop-again c =
     let e = withFrames-put (scaledEach factors) (l .loop .i) (args .out .now) (omega (arith, h, start .pre .1 .0 .1)) (inv .1) (inv .2) (c .before .before .before .before .scaled .ensures ∙ ap (λ (a : Frame). scaled a (factorOf factors (l .loop .i))) (c .before .before .before .before .before .frame-at .ensures)) (c .before .before .put-frame .ensures) in
     (omega (arith, h, inv .0), e .0, e .1)
 
--- src/send.rt:19:1
 same-length-2 : tie.Need-same-length-2 Inv-loop μ-loop
 same-length-2 c = search needs
 
--- src/send.rt:19:1
 returns-2 : tie.Need-returns-2 Inv-loop μ-loop
 returns-2 c =
     let l = c .before in

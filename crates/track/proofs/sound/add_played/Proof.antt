@@ -3,16 +3,11 @@ use Prim.Native.Nat.{_-_, _≤_}
 use native.Mathlib.Omega.{arith}
 use lib.ListN.{length}
 use borrow.Author.Needs.{needs}
-use Rattle.track.specs.Frame.{withFrames, added}
-use Rattle.track.specs.FrameLaws.{withFrames-zero, withFrames-put, withFrames-end}
-use Rattle.track.specs.SoundLaws.{played, sound-plays}
+use Rattle.frame.specs.Frame.{withFrames, added}
+use Rattle.frame.proofs.laws.Frame.{withFrames-zero, withFrames-put, withFrames-end}
+use Rattle.track.proofs.laws.Sound.{played, sound-plays}
 use Rattle.track.proofs.sound.add_played.Statement.{statement}
 use Rattle.track.proofs.sound.add_played.Tie as tie
-use Rattle.track.proofs.sound.add_played.Reads as reads
-use Rattle.track.proofs.sound.add_played.Lts as lts
-use Rattle.track.proofs.frame.Frame.added.Reads as added-reads
-use Rattle.track.proofs.frame.frame_at.Reads as frame-at-reads
-use Rattle.track.proofs.frame.put_frame.Reads as put-frame-reads
 
 abbrev Inv-loop : tie.InvT-loop
 Inv-loop to₀ samples frames start i₀ to i = (i ≤ frames) × (length to ≡ length to₀) × (to ≡ withFrames (played samples start) i to₀)
@@ -20,39 +15,30 @@ Inv-loop to₀ samples frames start i₀ to i = (i ≤ frames) × (length to ≡
 abbrev μ-loop : tie.MeasureT-loop
 μ-loop to₀ samples frames start i₀ to i = frames - i
 
--- src/sound.rt:24:5
 loop-holds : tie.Need-loop-holds Inv-loop μ-loop
 loop-holds c = (search needs, refl, sym (withFrames-zero _ _))
 
--- src/sound.rt:25:19
 frame-at-requires : tie.Need-frame-at-requires Inv-loop μ-loop
 frame-at-requires c κs = search needs
 
--- src/sound.rt:25:59
 add-frame-at : tie.Need-add-frame-at Inv-loop μ-loop
 add-frame-at c = search needs
 
--- src/sound.rt:25:41
 frame-at-requires-2 : tie.Need-frame-at-requires-2 Inv-loop μ-loop
 frame-at-requires-2 c κs = search needs
 
--- src/sound.rt:25:13
 added-requires : tie.Need-added-requires Inv-loop μ-loop
 added-requires c κs = search needs
 
--- src/sound.rt:26:9
 put-frame-requires : tie.Need-put-frame-requires Inv-loop μ-loop
 put-frame-requires c κs = search needs
 
--- src/sound.rt:27:9
 add-i : tie.Need-add-i Inv-loop μ-loop
 add-i c = search needs
 
--- src/sound.rt:24:5
 loop-less : tie.Need-loop-less Inv-loop μ-loop
 loop-less c = search needs
 
--- src/sound.rt:24:5
 loop-again : tie.Need-loop-again Inv-loop μ-loop
 loop-again c =
     let l = c .before .before .before .before .before .before .before .before .before in
@@ -63,11 +49,9 @@ loop-again c =
     let e = withFrames-put (played (args .samples .now) (args .sound .start)) (l .loop .i) (args .to .now) (omega (arith, h, start .pre .0)) (inv .1) (inv .2) (c .before .before .before .before .added .ensures ∙ ap₂ added (c .before .before .before .before .before .before .frame-at .ensures) (c .before .before .before .before .before .frame-at2 .ensures)) (c .before .before .put-frame .ensures) in
     (omega (arith, h, inv .0), e .0, e .1)
 
--- src/sound.rt:16:1
 same-length : tie.Need-same-length Inv-loop μ-loop
 same-length c = search needs
 
--- src/sound.rt:16:1
 returns : tie.Need-returns Inv-loop μ-loop
 returns c =
     let l = c .before in

@@ -3,17 +3,11 @@ use Prim.Native.Nat.{_-_, _≤_}
 use native.Mathlib.Omega.{arith}
 use lib.ListN.{length}
 use borrow.Author.Needs.{needs}
-use Rattle.track.specs.Frame.{withFrames, placed, added, frameAt}
+use Rattle.frame.specs.Frame.{withFrames, placed, added, frameAt}
 use Rattle.track.specs.Sound.{addedZero}
-use Rattle.track.specs.FrameLaws.{withFrames-same, withFrames-put, withFrames-end, placed-in, placed-below}
+use Rattle.frame.proofs.laws.Frame.{withFrames-same, withFrames-put, withFrames-end, placed-in, placed-below}
 use Rattle.track.proofs.sound.add_silence.Statement.{statement}
 use Rattle.track.proofs.sound.add_silence.Tie as tie
-use Rattle.track.proofs.sound.add_silence.Reads as reads
-use Rattle.track.proofs.sound.add_silence.Lts as lts
-use Rattle.track.proofs.frame.Frame.added.Reads as added-reads
-use Rattle.track.proofs.frame.Frame.zero.Reads as zero-reads
-use Rattle.track.proofs.frame.frame_at.Reads as frame-at-reads
-use Rattle.track.proofs.frame.put_frame.Reads as put-frame-reads
 
 abbrev Inv-loop : tie.InvT-loop
 Inv-loop to₀ first frames i₀ to i = (first ≤ i) × (i ≤ frames) × (length to ≡ length to₀) × (to ≡ withFrames (placed first (frames - first) addedZero) i to₀)
@@ -21,38 +15,30 @@ Inv-loop to₀ first frames i₀ to i = (first ≤ i) × (i ≤ frames) × (leng
 abbrev μ-loop : tie.MeasureT-loop
 μ-loop to₀ first frames i₀ to i = frames - i
 
--- src/sound.rt:38:5
 loop-holds : tie.Need-loop-holds Inv-loop μ-loop
 loop-holds c =
     let args = c .before .args in
     let step = placed (args .first) (args .frames - args .first) addedZero in
     (search needs, search needs, refl, sym (withFrames-same step (args .first) (args .to .now) (λ k h a. placed-below (args .first) (args .frames - args .first) addedZero k a h)))
 
--- src/sound.rt:39:19
 frame-at-requires : tie.Need-frame-at-requires Inv-loop μ-loop
 frame-at-requires c κs = search needs
 
--- src/sound.rt:39:41
 zero-requires : tie.Need-zero-requires Inv-loop μ-loop
 zero-requires c κs = search needs
 
--- src/sound.rt:39:13
 added-requires : tie.Need-added-requires Inv-loop μ-loop
 added-requires c κs = search needs
 
--- src/sound.rt:40:9
 put-frame-requires : tie.Need-put-frame-requires Inv-loop μ-loop
 put-frame-requires c κs = search needs
 
--- src/sound.rt:41:9
 add-i : tie.Need-add-i Inv-loop μ-loop
 add-i c = search needs
 
--- src/sound.rt:38:5
 loop-less : tie.Need-loop-less Inv-loop μ-loop
 loop-less c = search needs
 
--- src/sound.rt:38:5
 loop-again : tie.Need-loop-again Inv-loop μ-loop
 loop-again c =
     let l = c .before .before .before .before .before .before .before .before .before in
@@ -67,11 +53,9 @@ loop-again c =
     (b ∙ sym (placed-in (args .first) rest addedZero i (frameAt (l .loop .to) i) (inv .0) (omega (arith, h)))) (c .before .before .put-frame .ensures) in
     (omega (arith, inv .0), omega (arith, h), e .0, e .1)
 
--- src/sound.rt:32:1
 same-length : tie.Need-same-length Inv-loop μ-loop
 same-length c = search needs
 
--- src/sound.rt:32:1
 returns : tie.Need-returns Inv-loop μ-loop
 returns c =
     let l = c .before in

@@ -1,38 +1,27 @@
 use native.Mathlib.Omega.{arith}
-use Rattle.track.specs.SoundLaws.{sound-ends}
 use borrow.Author.Needs.{needs}
+use Rattle.track.proofs.laws.Sound.{sound-ends}
 use Rattle.track.proofs.sound.add_sound.Statement.{statement}
 use Rattle.track.proofs.sound.add_sound.Tie as tie
-use Rattle.track.proofs.sound.add_sound.Reads as reads
-use Rattle.track.proofs.sound.add_sound.Lts as lts
-use Rattle.track.proofs.sound.add_played.Reads as add-played-reads
-use Rattle.track.proofs.sound.add_silence.Reads as add-silence-reads
 
--- src/sound.rt:53:9
 add-played-requires : tie.Need-add-played-requires
 add-played-requires c κs = search needs
 
--- src/sound.rt:54:9
 same-length : tie.Need-same-length
 same-length c = search needs
 
--- src/sound.rt:54:9
 returns : tie.Need-returns
 returns c = search needs
 
--- src/sound.rt:56:5
 add-played-requires-2 : tie.Need-add-played-requires-2
 add-played-requires-2 c κs = search needs
 
--- src/sound.rt:57:5
 add-silence-requires : tie.Need-add-silence-requires
 add-silence-requires c κs = search needs
 
--- src/sound.rt:46:1
 same-length-2 : tie.Need-same-length-2
 same-length-2 c = search needs
 
--- src/sound.rt:46:1
 returns-2 : tie.Need-returns-2
 returns-2 c =
     let start = c .before .before .before .before .before .before .before .before .before .before .before in

@@ -7,32 +7,28 @@ use lib.Dec.{eqb}
 use lib.ListN.{length}
 use lib.Ieee.{Float}
 use borrow.Author.Needs.{needs}
-use Rattle.track.specs.declared.chunk.Chunk.{Chunk}
-use Rattle.track.specs.declared.chunk.ChunkSound.{ChunkSound}
-use Rattle.track.specs.Frame.{withFrames}
-use Rattle.track.specs.Chunk.{soundLine}
+use Rattle.chunk.specs.declared.chunk.Chunk.{Chunk}
+use Rattle.chunk.specs.declared.chunk.ChunkSound.{ChunkSound}
+use Rattle.frame.specs.Frame.{withFrames}
 use Rattle.track.specs.Sound.{addedSound, withSounds}
-use Rattle.track.specs.FrameLaws.{Step}
-use Rattle.track.specs.TurnLaws.{turn-length, step-picked, step-left}
-use Rattle.track.specs.Flat.{chunkFrom}
+use Rattle.frame.proofs.laws.Frame.{Step}
+use Rattle.frame.proofs.laws.Turn.{turn-length, step-picked, step-left}
+use Rattle.chunk.specs.Flat.{chunkFrom}
 use Rattle.track.specs.Owners.{soundLinks}
-use Rattle.track.specs.OwnersLaws.{Follows, Skips, follow-start, follow-less, follow-turn, follow-done}
+use Rattle.track.proofs.laws.Owners.{Follows, Skips, follow-start, follow-less, follow-turn, follow-done}
 use Rattle.track.proofs.sound.add_sounds.Statement.{statement}
+use Rattle.chunk.specs.Chunk.{soundRow}
 use Rattle.track.proofs.sound.add_sounds.Tie as tie
-use Rattle.track.proofs.sound.add_sounds.Reads as reads
-use Rattle.track.proofs.sound.add_sounds.Lts as lts
-use Rattle.track.proofs.flat.sound_at.Reads as sound-at-reads
-use Rattle.track.proofs.sound.add_sound.Reads as add-sound-reads
 
 -- sound k's turn, and its track
 abbrev step : Chunk → List Float → ℕ → ℕ → Step
-step c samples line k i a = cond (eqb (soundLine c k .track) line) (addedSound samples (soundLine c k) i a) a
+step c samples line k i a = cond (eqb (soundRow c k .track) line) (addedSound samples (soundRow c k) i a) a
 
 abbrev owner : Chunk → ℕ → ℕ
-owner c k = soundLine c k .track
+owner c k = soundRow c k .track
 
 skips : (c : Chunk) (samples : List Float) (line : ℕ) (begun : List Float) → Skips (step c samples line) (c .frames) (c .«sound_count») (owner c) line begun
-skips c samples line begun k d x = step-left (soundLine c k .track) line (addedSound samples (soundLine c k)) (c .frames) x d
+skips c samples line begun k d x = step-left (soundRow c k .track) line (addedSound samples (soundRow c k)) (c .frames) x d
 
 abbrev Inv : Chunk → List Float → ℕ → List Float → List Float → ℕ → Type 0
 Inv c samples line begun to k = (length to ≡ length begun) × Follows (step c samples line) (c .frames) (c .«sound_count») (owner c) line begun to k
@@ -43,19 +39,15 @@ Inv-loop to₀ samples places values links line frames k₀ to k = Inv (chunkFro
 abbrev μ-loop : tie.MeasureT-loop
 μ-loop to₀ samples places values links line frames k₀ to k = k
 
--- src/sound.rt:78:18
 element-copy-out-frames : tie.Need-element-copy-out-frames Inv-loop μ-loop
 element-copy-out-frames c = search needs
 
--- src/sound.rt:79:17
 mul-k : tie.Need-mul-k Inv-loop μ-loop
 mul-k c = search needs
 
--- src/sound.rt:79:17
 element-copy-out-k : tie.Need-element-copy-out-k Inv-loop μ-loop
 element-copy-out-k c = search needs
 
--- src/sound.rt:80:5
 loop-holds : tie.Need-loop-holds Inv-loop μ-loop
 unfolding soundLinks
 loop-holds c =
@@ -66,34 +58,27 @@ loop-holds c =
     let to = args .to .now in
     (refl, follow-start (step chunk samples (args .line)) (chunk .frames) (chunk .«sound_count») (owner chunk) (args .line) to (skips chunk samples (args .line) to) (start .pre .1 .1 .1) (start .pre .1 .0))
 
--- src/sound.rt:81:46
 sub-sound-at : tie.Need-sub-sound-at Inv-loop μ-loop
 sub-sound-at c = search needs
 
--- src/sound.rt:81:13
 sound-at-requires : tie.Need-sound-at-requires Inv-loop μ-loop
 sound-at-requires c κs = omega (arith, c .loop-test .taken, c .before .loop .inv .1 .few, c .before .before .before .before .before .before .pre .0 .sounds)
 
--- src/sound.rt:82:9
 add-sound-requires : tie.Need-add-sound-requires Inv-loop μ-loop
 add-sound-requires c κs =
     let l = c .before .before .before in
     let start = c .before .before .before .before .before .before .before .before in
     (omega (arith, l .loop .inv .0, start .pre .1 .1 .0), subst (λ (s : ChunkSound). 2 * (s .start + s .left) ≤ length (start .args .samples .now)) (sym (c .before .sound-at .ensures)) (start .pre .0 .held (l .loop .k - 1) (omega (arith, c .before .before .loop-test .taken, l .loop .inv .1 .few))))
 
--- src/sound.rt:83:19
 add-k : tie.Need-add-k Inv-loop μ-loop
 add-k c = search (needs, c .before .before .before .before .before .before .loop .inv .1 .few, c .before .before .before .before .before .before .before .before .before .before .before .pre .0 .sounds)
 
--- src/sound.rt:83:13
 mul-k-2 : tie.Need-mul-k-2 Inv-loop μ-loop
 mul-k-2 c = search needs
 
--- src/sound.rt:83:13
 element-copy-out-k-2 : tie.Need-element-copy-out-k-2 Inv-loop μ-loop
 element-copy-out-k-2 c = omega (arith, c .before .before .before .before .before .before .loop .inv .1 .few, c .before .before .before .before .before .before .before .before .before .before .before .pre .0 .sounds)
 
--- src/sound.rt:80:5
 loop-less : tie.Need-loop-less Inv-loop μ-loop
 unfolding soundLinks
 loop-less c =
@@ -108,7 +93,6 @@ loop-less c =
     let to = args .to .now in
     follow-less g (chunk .frames) (chunk .«sound_count») (owner chunk) (args .line) to k (l .loop .to) (start .pre .0 .sounds) (start .pre .1 .1 .1) (start .pre .1 .0) h (l .loop .inv .1)
 
--- src/sound.rt:80:5
 loop-again : tie.Need-loop-again Inv-loop μ-loop
 unfolding soundLinks
 loop-again c =
@@ -121,7 +105,7 @@ loop-again c =
     let h = c .before .before .before .before .before .before .loop-test .taken in
     let g = step chunk samples (args .line) in
     let to = args .to .now in
-    let sound = soundLine chunk (k - 1) in
+    let sound = soundRow chunk (k - 1) in
     let e = c .before .before .before .add-sound .ensures
     ∙ ap (λ (s : ChunkSound). withFrames (addedSound samples s) (chunk .frames) (l .loop .to)) (c .before .before .before .before .before .sound-at .ensures)
     ∙ sym (step-picked (sound .track) (args .line) (addedSound samples sound) (chunk .frames) (l .loop .to) (l .loop .inv .1 .own h)) in (
@@ -129,11 +113,9 @@ loop-again c =
       follow-turn g (chunk .frames) (chunk .«sound_count») (owner chunk) (args .line) to k (l .loop .to) (skips chunk samples (args .line) to) (start .pre .0 .sounds) (start .pre .1 .1 .1) (start .pre .1 .0) h (l .loop .inv .1) e,
     )
 
--- src/sound.rt:64:1
 same-length : tie.Need-same-length Inv-loop μ-loop
 same-length c = search needs
 
--- src/sound.rt:64:1
 returns : tie.Need-returns Inv-loop μ-loop
 unfolding withSounds
 returns c =

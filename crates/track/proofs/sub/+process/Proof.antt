@@ -1,42 +1,42 @@
 use mathlib.Core.Path.{_≡_, refl, sym, ap, _∙_, subst}
 use mathlib.Core.Bool.{Bool, true, false, not}
 use mathlib.Core.List.{List}
-use Prim.Native.Nat.{suc, _-_, _≤_}
+use Prim.Native.Nat.{suc, _-_, _≤_, ℕ, _<_}
 use native.Mathlib.Omega.{arith}
 use lib.ListN.{length, replicate}
 use lib.Ieee.{Float, ofBits, ofInt}
 use borrow.Author.Needs.{needs}
-use Rattle.track.specs.declared.chunk.Chunk.{Chunk}
-use Rattle.track.specs.declared.chunk.ChunkTrack.{ChunkTrack}
-use Rattle.track.specs.declared.chunk.Level.{Level}
-use Rattle.track.specs.Frame.{none, withFrames}
-use Rattle.track.specs.Chunk.{trackLine, LevelInRange}
-use Rattle.track.specs.Flat.{chunkFrom}
-use Rattle.track.specs.Sound.{withSounds}
-use Rattle.track.specs.Sub.{sendFrames, trackScaled}
-use Rattle.track.specs.FrameLaws.{kept}
-use Rattle.track.specs.TurnLaws.{turn-length}
-use Rattle.track.specs.Owners.{subTrackLinks}
-use Rattle.track.specs.Running.{AllRunning, running-silent, running-track}
-use Rattle.track.specs.OwnersLaws.{Follows, follow-start, follow-less, follow-turn, follow-done}
-use Rattle.track.specs.SubLaws.{subStep, subSend, sub-taken, sub-left, send-taken, send-left, sub-done, send-done, track-added, track-mixed, track-stopped, track-none, sends-mixed, sends-stopped, sends-none}
-use Prim.Native.Nat.{ℕ, _<_}
 use borrow.Fn.Kinds.{In}
 use borrow.Fn.PlainCycle.{Measures, is, falls, and}
-use Rattle.track.proofs.sub.process.Reads as process
+use Rattle.chunk.specs.declared.chunk.Chunk.{Chunk}
+use Rattle.chunk.specs.declared.chunk.ChunkTrack.{ChunkTrack}
+use Rattle.chunk.specs.declared.chunk.Level.{Level}
+use Rattle.frame.specs.Frame.{withFrames, zeroSample}
+use Rattle.chunk.specs.Chunk.{LevelInRange, trackRow}
+use Rattle.chunk.specs.Flat.{chunkFrom}
+use Rattle.track.specs.Sound.{withSounds}
+use Rattle.track.specs.Sub.{sendFrames, trackScaled}
+use Rattle.frame.proofs.laws.Frame.{kept}
+use Rattle.frame.proofs.laws.Turn.{turn-length}
+use Rattle.track.specs.Owners.{subTrackLinks}
+use Rattle.frame.specs.Running.{AllRunning}
+use Rattle.track.proofs.laws.Running.{running-silent, running-track}
+use Rattle.track.proofs.laws.Owners.{Follows, follow-start, follow-less, follow-turn, follow-done}
+use Rattle.track.proofs.laws.Sub.{subStep, subSend, sub-taken, sub-left, send-taken, send-left, sub-done, send-done, track-added, track-mixed, track-stopped, track-none, sends-mixed, sends-stopped, sends-none}
+use Rattle.track.proofs.sub.+process.{statement}
+use Rattle.track.proofs.sub.+process.Tie.{close}
 use Rattle.track.proofs.sub.process.Kinds as process-kinds
+use Rattle.track.proofs.sub.process.Reads as process
 use Rattle.track.proofs.sub.+process.Lts-process as process-lts
-use Rattle.track.proofs.flat.track_at.Reads as track-at-reads
-use Rattle.track.proofs.frame.add_frames.Reads as add-frames-reads
+use Rattle.chunk.proofs.track_at.Reads as track-at-reads
+use Rattle.frame.proofs.add_frames.Reads as add-frames-reads
 use Rattle.track.proofs.sound.add_sounds.Reads as add-sounds-reads
 use Rattle.track.proofs.sub.add_routes.Reads as add-routes-reads
 use Rattle.track.proofs.sub.apply_volume.Reads as apply-volume-reads
-use Rattle.track.proofs.sub.+process.{statement}
-use Rattle.track.proofs.sub.+process.Tie.{close}
 
 -- what a track is mixed in
 abbrev silent : List Float
-silent = replicate 512 none
+silent = replicate 512 zeroSample
 
 not-true : (b : Bool) → not b ≡ true → b ≡ false
 not-true true h = sym h
@@ -47,7 +47,7 @@ not-false true h = refl
 not-false false h = sym h
 
 abbrev parent : Chunk → ℕ → ℕ
-parent c k = trackLine c k .parent
+parent c k = trackRow c k .parent
 
 abbrev Inv : Chunk → List Float → ℕ → ℕ → List Float → List Float → List Float → List Float → ℕ → Type 0
 Inv chunk samples line d out₀ sends₀ out sends j = (length out ≡ 512) × (length sends ≡ length sends₀) × Follows (subStep d chunk samples line) (chunk .frames) (chunk .«track_count») (parent chunk) line out₀ out j × Follows (subSend d chunk samples line) sendFrames (chunk .«track_count») (parent chunk) line sends₀ sends j × AllRunning (chunk .frames) out
@@ -68,7 +68,6 @@ process-Inv-loop places values sub-tracks sounds parts table samples line depth 
 abbrev process-μ-loop : process-lts.MeasureT-loop
 process-μ-loop places values sub-tracks sounds parts table samples line depth to sends₀ frames track out₀ j₀ sends out j = j
 
--- src/sub.rt:169:18
 process-element-copy-out-frames : (t : ℕ) → process-lts.Need-element-copy-out-frames (
   track-at-reads.Asked,
   track-at-reads.Learnt,
@@ -85,7 +84,6 @@ process-element-copy-out-frames : (t : ℕ) → process-lts.Need-element-copy-ou
 ) (process-at t) process.Post process-Inv-loop process-μ-loop
 process-element-copy-out-frames t c = search needs
 
--- src/sub.rt:170:42
 process-sub-track-at : (t : ℕ) → process-lts.Need-sub-track-at (
   track-at-reads.Asked,
   track-at-reads.Learnt,
@@ -102,7 +100,6 @@ process-sub-track-at : (t : ℕ) → process-lts.Need-sub-track-at (
 ) (process-at t) process.Post process-Inv-loop process-μ-loop
 process-sub-track-at t c = c .before .before .before .before .pre .1 .1 .1 .1 .1 .0 .0
 
--- src/sub.rt:170:9
 process-track-at-requires : (t : ℕ) → process-lts.Need-track-at-requires (
   track-at-reads.Asked,
   track-at-reads.Learnt,
@@ -121,7 +118,6 @@ process-track-at-requires t c κs =
     let start = c .before .before .before .before in
     omega (arith, start .pre .1 .1 .1 .1 .1 .0 .0, start .pre .1 .1 .1 .1 .1 .0 .1, start .pre .1 .1 .0 .tracks)
 
--- src/sub.rt:172:9
 process-returns : (t : ℕ) → process-lts.Need-returns (
   track-at-reads.Asked,
   track-at-reads.Learnt,
@@ -144,7 +140,6 @@ process-returns t c =
     let none = c .if1 .taken in
     (track-none (args .depth) chunk samples (args .line) (args .to .now) none (start .pre .1 .1 .1 .1 .1 .1 .1 .1), sends-none (args .depth) chunk samples (args .line) (args .sends .now) none)
 
--- src/sub.rt:175:9
 process-returns-2 : (t : ℕ) → process-lts.Need-returns-2 (
   track-at-reads.Asked,
   track-at-reads.Learnt,
@@ -168,7 +163,6 @@ process-returns-2 t c =
     let stops = ap (λ (t : ChunkTrack). t .advancing) (sym (c .before .before .before .track-at .ensures)) ∙ not-true _ (c .if2 .taken) in
     (track-stopped (args .depth) (args .depth - 1) chunk samples (args .line) (args .to .now) deep (start .pre .1 .1 .1 .1 .1 .1 .1 .1) stops, sends-stopped (args .depth) (args .depth - 1) chunk samples (args .line) (args .sends .now) deep stops)
 
--- src/sub.rt:178:17
 process-mul-j : (t : ℕ) → process-lts.Need-mul-j (
   track-at-reads.Asked,
   track-at-reads.Learnt,
@@ -185,7 +179,6 @@ process-mul-j : (t : ℕ) → process-lts.Need-mul-j (
 ) (process-at t) process.Post process-Inv-loop process-μ-loop
 process-mul-j t c = search needs
 
--- src/sub.rt:178:17
 process-element-copy-out-j : (t : ℕ) → process-lts.Need-element-copy-out-j (
   track-at-reads.Asked,
   track-at-reads.Learnt,
@@ -202,7 +195,6 @@ process-element-copy-out-j : (t : ℕ) → process-lts.Need-element-copy-out-j (
 ) (process-at t) process.Post process-Inv-loop process-μ-loop
 process-element-copy-out-j t c = search needs
 
--- src/sub.rt:179:5
 process-loop-holds : (t : ℕ) → process-lts.Need-loop-holds (
   track-at-reads.Asked,
   track-at-reads.Learnt,
@@ -234,7 +226,6 @@ process-loop-holds t c =
       running-silent 512 (chunk .frames) (omega (arith, start .pre .1 .1 .0 .short)),
     )
 
--- src/sub.rt:189:13
 process-sub-process : (t : ℕ) → process-lts.Need-sub-process (
   track-at-reads.Asked,
   track-at-reads.Learnt,
@@ -251,7 +242,6 @@ process-sub-process : (t : ℕ) → process-lts.Need-sub-process (
 ) (process-at t) process.Post process-Inv-loop process-μ-loop
 process-sub-process t c = omega (arith, c .before .before .before .before .before .if1 .left)
 
--- src/sub.rt:190:13
 process-slice-aggregate-process : (t : ℕ) → process-lts.Need-slice-aggregate-process (
   track-at-reads.Asked,
   track-at-reads.Learnt,
@@ -268,7 +258,6 @@ process-slice-aggregate-process : (t : ℕ) → process-lts.Need-slice-aggregate
 ) (process-at t) process.Post process-Inv-loop process-μ-loop
 process-slice-aggregate-process t c = search needs
 
--- src/sub.rt:180:9
 process-process-requires : (t : ℕ) → process-lts.Need-process-requires (
   track-at-reads.Asked,
   track-at-reads.Learnt,
@@ -289,7 +278,6 @@ process-process-requires t c κs =
     let inv = c .before .before .before .loop .inv in
     (omega (arith, start .pre .0, c .before .before .before .before .before .before .before .if1 .left), (start .pre .1 .0, (ok, (start .pre .1 .1 .1 .0, (start .pre .1 .1 .1 .1 .0, ((c .before .before .loop-test .taken, inv .2 .few), (omega (arith, ok .short, inv .0), (inv .1 ∙ start .pre .1 .1 .1 .1 .1 .1 .1 .0, inv .4))))))))
 
--- src/sub.rt:193:24
 process-add-j : (t : ℕ) → process-lts.Need-add-j (
   track-at-reads.Asked,
   track-at-reads.Learnt,
@@ -306,7 +294,6 @@ process-add-j : (t : ℕ) → process-lts.Need-add-j (
 ) (process-at t) process.Post process-Inv-loop process-μ-loop
 process-add-j t c = search (needs, c .before .before .before .before .before .before .before .loop .inv .2 .few, c .before .before .before .before .before .before .before .before .before .before .before .before .before .before .before .before .before .pre .1 .1 .0 .tracks)
 
--- src/sub.rt:193:13
 process-mul-j-2 : (t : ℕ) → process-lts.Need-mul-j-2 (
   track-at-reads.Asked,
   track-at-reads.Learnt,
@@ -323,7 +310,6 @@ process-mul-j-2 : (t : ℕ) → process-lts.Need-mul-j-2 (
 ) (process-at t) process.Post process-Inv-loop process-μ-loop
 process-mul-j-2 t c = search (needs, c .before .before .before .before .before .before .before .loop .inv .2 .few, c .before .before .before .before .before .before .before .before .before .before .before .before .before .before .before .before .before .pre .1 .1 .0 .tracks)
 
--- src/sub.rt:193:13
 process-element-copy-out-j-2 : (t : ℕ) → process-lts.Need-element-copy-out-j-2 (
   track-at-reads.Asked,
   track-at-reads.Learnt,
@@ -340,7 +326,6 @@ process-element-copy-out-j-2 : (t : ℕ) → process-lts.Need-element-copy-out-j
 ) (process-at t) process.Post process-Inv-loop process-μ-loop
 process-element-copy-out-j-2 t c = omega (arith, c .before .before .before .before .before .before .before .loop .inv .2 .few, c .before .before .before .before .before .before .before .before .before .before .before .before .before .before .before .before .before .pre .1 .1 .0 .tracks)
 
--- src/sub.rt:179:5
 process-loop-less : (t : ℕ) → process-lts.Need-loop-less (
   track-at-reads.Asked,
   track-at-reads.Learnt,
@@ -372,7 +357,6 @@ process-loop-less t c =
     let few : line ≤ 32 = omega (arith, start .pre .1 .1 .1 .1 .1 .0 .1, start .pre .1 .1 .0 .tracks) in
     follow-less (subStep d chunk samples line) (chunk .frames) (chunk .«track_count») (parent chunk) line _ j (l .loop .out) room few owned h (inv .2)
 
--- src/sub.rt:179:5
 process-loop-again : (t : ℕ) → process-lts.Need-loop-again (
   track-at-reads.Asked,
   track-at-reads.Learnt,
@@ -413,7 +397,6 @@ process-loop-again t c =
       running-track (chunk .frames) (l .loop .out) (omega (arith, inv .0, start .pre .1 .1 .0 .short)) d chunk samples j (inv .4) (c .before .before .before .before .process .ensures .0),
     )
 
--- src/sub.rt:195:16
 process-slice-aggregate-add-sounds : (t : ℕ) → process-lts.Need-slice-aggregate-add-sounds (
   track-at-reads.Asked,
   track-at-reads.Learnt,
@@ -430,7 +413,6 @@ process-slice-aggregate-add-sounds : (t : ℕ) → process-lts.Need-slice-aggreg
 ) (process-at t) process.Post process-Inv-loop process-μ-loop
 process-slice-aggregate-add-sounds t c = search needs
 
--- src/sub.rt:195:5
 process-add-sounds-requires : (t : ℕ) → process-lts.Need-add-sounds-requires (
   track-at-reads.Asked,
   track-at-reads.Learnt,
@@ -450,7 +432,6 @@ process-add-sounds-requires t c κs =
     let ok = start .pre .1 .1 .0 in
     (ok, (start .pre .1 .1 .1 .0 .1, (omega (arith, c .before .before .loop .inv .0, ok .short), omega (arith, start .pre .1 .1 .1 .1 .1 .0 .1, ok .tracks))))
 
--- src/sub.rt:196:18
 process-slice-aggregate-apply-volume : (t : ℕ) → process-lts.Need-slice-aggregate-apply-volume (
   track-at-reads.Asked,
   track-at-reads.Learnt,
@@ -467,7 +448,6 @@ process-slice-aggregate-apply-volume : (t : ℕ) → process-lts.Need-slice-aggr
 ) (process-at t) process.Post process-Inv-loop process-μ-loop
 process-slice-aggregate-apply-volume t c = search needs
 
--- src/sub.rt:196:5
 process-apply-volume-requires : (t : ℕ) → process-lts.Need-apply-volume-requires (
   track-at-reads.Asked,
   track-at-reads.Learnt,
@@ -491,10 +471,9 @@ process-apply-volume-requires t c κs =
     let lines = start .pre .1 .1 .1 .1 .1 .0 in
     let l = c .before .before .before .before .before in
     let heard-length = kept (withSounds chunk samples (args .line)) (chunk .frames) (l .loop .out) (c .before .before .add-sounds .ensures) in
-    let level : (f : ChunkTrack → Level) → LevelInRange (f (trackLine chunk (args .line - 1))) → LevelInRange (f (c .before .before .before .before .before .before .before .before .before .before .track-at .result)) = λ f. subst (λ (t : ChunkTrack). LevelInRange (f t)) (sym (c .before .before .before .before .before .before .before .before .before .before .track-at .ensures)) in
+    let level : (f : ChunkTrack → Level) → LevelInRange (f (trackRow chunk (args .line - 1))) → LevelInRange (f (c .before .before .before .before .before .before .before .before .before .before .track-at .result)) = λ f. subst (λ (t : ChunkTrack). LevelInRange (f t)) (sym (c .before .before .before .before .before .before .before .before .before .before .track-at .ensures)) in
     (start .pre .1 .0, ((ok .short, omega (arith, heard-length, l .loop .inv .0, ok .short)), ((level (λ t. t .volume) (ok .volumes (args .line - 1) (omega (arith, lines .0, lines .1))), level (λ t. t .fade) (ok .fades (args .line - 1) (omega (arith, lines .0, lines .1)))), start .pre .1 .1 .1 .1 .0)))
 
--- src/sub.rt:197:23
 process-slice-aggregate-add-routes : (t : ℕ) → process-lts.Need-slice-aggregate-add-routes (
   track-at-reads.Asked,
   track-at-reads.Learnt,
@@ -511,7 +490,6 @@ process-slice-aggregate-add-routes : (t : ℕ) → process-lts.Need-slice-aggreg
 ) (process-at t) process.Post process-Inv-loop process-μ-loop
 process-slice-aggregate-add-routes t c = search needs
 
--- src/sub.rt:197:5
 process-add-routes-requires : (t : ℕ) → process-lts.Need-add-routes-requires (
   track-at-reads.Asked,
   track-at-reads.Learnt,
@@ -536,7 +514,6 @@ process-add-routes-requires t c κs =
     let scaled-length = kept (trackScaled (c .before .before .before .before .before .before .before .before .before .before .before .before .before .before .track-at .result) (chunk .frames)) (chunk .frames) (c .before .before .before .before .before .before .add-sounds .last .0) (c .before .before .before .apply-volume .ensures) in
     (start .pre .1 .1 .0, (omega (arith, heard-length, scaled-length, l .loop .inv .0, start .pre .1 .1 .0 .short), l .loop .inv .1 ∙ start .pre .1 .1 .1 .1 .1 .1 .1 .0))
 
--- src/sub.rt:198:20
 process-slice-aggregate-add-frames : (t : ℕ) → process-lts.Need-slice-aggregate-add-frames (
   track-at-reads.Asked,
   track-at-reads.Learnt,
@@ -553,7 +530,6 @@ process-slice-aggregate-add-frames : (t : ℕ) → process-lts.Need-slice-aggreg
 ) (process-at t) process.Post process-Inv-loop process-μ-loop
 process-slice-aggregate-add-frames t c = search needs
 
--- src/sub.rt:198:5
 process-add-frames-requires : (t : ℕ) → process-lts.Need-add-frames-requires (
   track-at-reads.Asked,
   track-at-reads.Learnt,
@@ -578,7 +554,6 @@ process-add-frames-requires t c κs =
     let scaled-length = kept (trackScaled (c .before .before .before .before .before .before .before .before .before .before .before .before .before .before .before .before .before .before .before .track-at .result) (chunk .frames)) (chunk .frames) (c .before .before .before .before .before .before .before .before .before .before .before .add-sounds .last .0) (c .before .before .before .before .before .before .before .before .apply-volume .ensures) in
     (start .pre .1 .1 .1 .1 .1 .1 .0, omega (arith, heard-length, scaled-length, l .loop .inv .0, start .pre .1 .1 .0 .short))
 
--- src/sub.rt:145:1
 process-same-length : (t : ℕ) → process-lts.Need-same-length (
   track-at-reads.Asked,
   track-at-reads.Learnt,
@@ -595,7 +570,6 @@ process-same-length : (t : ℕ) → process-lts.Need-same-length (
 ) (process-at t) process.Post process-Inv-loop process-μ-loop
 process-same-length t c = search needs
 
--- src/sub.rt:145:1
 process-same-length-2 : (t : ℕ) → process-lts.Need-same-length-2 (
   track-at-reads.Asked,
   track-at-reads.Learnt,
@@ -612,7 +586,6 @@ process-same-length-2 : (t : ℕ) → process-lts.Need-same-length-2 (
 ) (process-at t) process.Post process-Inv-loop process-μ-loop
 process-same-length-2 t c = search needs
 
--- src/sub.rt:145:1
 process-returns-3 : (t : ℕ) → process-lts.Need-returns-3 (
   track-at-reads.Asked,
   track-at-reads.Learnt,

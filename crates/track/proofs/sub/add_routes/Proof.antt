@@ -4,22 +4,19 @@ use Prim.Native.Nat.{ℕ, _+_, _-_, _*_, _≤_, zero-le}
 use native.Mathlib.Omega.{arith}
 use lib.ListN.{length}
 use borrow.Author.Needs.{needs}
-use Rattle.laws.specs.Loop.{upto, upto-zero}
-use Rattle.track.specs.Frame.{withFrames, placed, addedScaled}
-use Rattle.track.specs.Sub.{sendFrames}
-use Rattle.track.specs.TurnLaws.{turns, turn-length, up-turn, up-done}
-use Rattle.track.specs.SubLaws.{routeStep, route-taken, route-left, routes-done}
 use mathlib.Core.List.{List}
 use lib.Ieee.{Float}
-use Rattle.track.specs.declared.chunk.Chunk.{Chunk}
-use Rattle.track.specs.declared.chunk.ChunkRoute.{ChunkRoute}
-use Rattle.track.specs.Flat.{chunkFrom}
+use Rattle.laws.specs.Loop.{upto}
+use Rattle.laws.proofs.laws.Loop.{upto-zero}
+use Rattle.frame.specs.Frame.{withFrames, placed, addedScaled}
+use Rattle.track.specs.Sub.{sendFrames}
+use Rattle.frame.proofs.laws.Turn.{turns, turn-length, up-turn, up-done}
+use Rattle.track.proofs.laws.Sub.{routeStep, route-taken, route-left, routes-done}
+use Rattle.chunk.specs.declared.chunk.Chunk.{Chunk}
+use Rattle.chunk.specs.declared.chunk.ChunkRoute.{ChunkRoute}
+use Rattle.chunk.specs.Flat.{chunkFrom}
 use Rattle.track.proofs.sub.add_routes.Statement.{statement}
 use Rattle.track.proofs.sub.add_routes.Tie as tie
-use Rattle.track.proofs.sub.add_routes.Reads as reads
-use Rattle.track.proofs.sub.add_routes.Lts as lts
-use Rattle.track.proofs.flat.route_at.Reads as route-at-reads
-use Rattle.track.proofs.frame.add_scaled.Reads as add-scaled-reads
 
 abbrev Inv : Chunk → ℕ → List Float → List Float → List Float → ℕ → Type 0
 Inv chunk line out sends₀ sends r = (r ≤ chunk .«route_count») × (length sends ≡ length sends₀) × (sends ≡ upto (turns (routeStep chunk line out) sendFrames) r sends₀)
@@ -30,23 +27,18 @@ Inv-loop sends₀ out places values samples line frames r₀ sends r = Inv (chun
 abbrev μ-loop : tie.MeasureT-loop
 μ-loop sends₀ out places values samples line frames r₀ sends r = chunkFrom places values .«route_count» - r
 
--- src/sub.rt:70:18
 element-copy-out-frames : tie.Need-element-copy-out-frames Inv-loop μ-loop
 element-copy-out-frames c = search needs
 
--- src/sub.rt:72:5
 loop-holds : tie.Need-loop-holds Inv-loop μ-loop
 loop-holds c = (zero-le, refl, sym (upto-zero _ _))
 
--- src/sub.rt:72:15
 element-copy-out-if1 : tie.Need-element-copy-out-if1 Inv-loop μ-loop
 element-copy-out-if1 c = search needs
 
--- src/sub.rt:73:13
 route-at-requires : tie.Need-route-at-requires Inv-loop μ-loop
 route-at-requires c κs = omega (arith, c .if1 .taken, c .before .before .before .before .before .before .before .pre .0 .routes)
 
--- src/sub.rt:75:26
 sub-first : tie.Need-sub-first Inv-loop μ-loop
 sub-first c =
     let start = c .before .before .before .before .before .before .before .before .before .before .before in
@@ -54,7 +46,6 @@ sub-first c =
     let routed = start .pre .0 .routed (c .before .before .before .before .before .before .loop .r) (c .before .before .before .before .if1 .taken) in
     search (needs, send, routed .0, routed .1)
 
--- src/sub.rt:75:25
 mul-first : tie.Need-mul-first Inv-loop μ-loop
 mul-first c =
     let start = c .before .before .before .before .before .before .before .before .before .before .before in
@@ -62,7 +53,6 @@ mul-first c =
     let routed = start .pre .0 .routed (c .before .before .before .before .before .before .loop .r) (c .before .before .before .before .if1 .taken) in
     search (needs, send, routed .0, routed .1)
 
--- src/sub.rt:77:13
 add-scaled-requires : tie.Need-add-scaled-requires Inv-loop μ-loop
 add-scaled-requires c κs =
     let start = c .before .before .before .before .before .before .before .before .before .before .before .before .before in
@@ -70,15 +60,12 @@ add-scaled-requires c κs =
     let routed = start .pre .0 .routed (c .before .before .before .before .before .before .before .before .loop .r) (c .before .before .before .before .before .before .if1 .taken) in
     (omega (arith, c .before .before .before .before .before .before .before .before .loop .inv .1, start .pre .1 .1, send, routed .0, routed .1, start .pre .0 .short), start .pre .1 .0)
 
--- src/sub.rt:79:9
 add-r : tie.Need-add-r Inv-loop μ-loop
 add-r c = search needs
 
--- src/sub.rt:72:5
 loop-less : tie.Need-loop-less Inv-loop μ-loop
 loop-less c = search needs
 
--- src/sub.rt:72:5
 loop-again : tie.Need-loop-again Inv-loop μ-loop
 loop-again c =
     let l = c .before .before .before .before .before in
@@ -100,11 +87,9 @@ loop-again c =
     (c .if2 .came) in
     (omega (arith, h), turn-length g sendFrames (args .sends .now) (l .loop .sends) r (inv .1) e, up-turn g sendFrames (args .sends .now) (l .loop .sends) r (inv .2) e)
 
--- src/sub.rt:57:1
 same-length : tie.Need-same-length Inv-loop μ-loop
 same-length c = search needs
 
--- src/sub.rt:57:1
 returns : tie.Need-returns Inv-loop μ-loop
 returns c =
     let l = c .before .before in

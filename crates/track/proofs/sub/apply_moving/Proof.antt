@@ -5,18 +5,12 @@ use native.Mathlib.Omega.{arith}
 use lib.ListN.{length, replicate, length-replicate}
 use lib.Ieee.{Float, binary32, ofBits}
 use borrow.Author.Needs.{needs}
-use Rattle.track.specs.declared.frame.Frame.{Frame}
-use Rattle.track.specs.Frame.{withFrames, scaled}
-use Rattle.track.specs.FrameLaws.{withFrames-zero, withFrames-put, withFrames-end}
-use Rattle.track.specs.SteadyLaws.{product, factorOf, scaledTwice, track-each}
+use Rattle.frame.specs.declared.frame.Frame.{Frame}
+use Rattle.frame.specs.Frame.{withFrames, scaled}
+use Rattle.frame.proofs.laws.Frame.{withFrames-zero, withFrames-put, withFrames-end}
+use Rattle.track.proofs.laws.Steady.{product, factorOf, scaledTwice, track-each}
 use Rattle.track.proofs.sub.apply_moving.Statement.{statement}
 use Rattle.track.proofs.sub.apply_moving.Tie as tie
-use Rattle.track.proofs.sub.apply_moving.Reads as reads
-use Rattle.track.proofs.sub.apply_moving.Lts as lts
-use Rattle.track.proofs.chunk.Level.amplitudes.Reads as amplitudes-reads
-use Rattle.track.proofs.frame.Frame.scaled.Reads as scaled-reads
-use Rattle.track.proofs.frame.frame_at.Reads as frame-at-reads
-use Rattle.track.proofs.frame.put_frame.Reads as put-frame-reads
 
 -- what the factors' array holds at first
 abbrev empty : List Float
@@ -28,59 +22,46 @@ Inv-loop out₀ frames parts table volumes fades i₀ out i = (i ≤ frames) × 
 abbrev μ-loop : tie.MeasureT-loop
 μ-loop out₀ frames parts table volumes fades i₀ out i = frames - i
 
--- src/sub.rt:76:5
 amplitudes-requires : tie.Need-amplitudes-requires Inv-loop μ-loop
 amplitudes-requires c κs =
     let pre = c .before .before .before .before .pre in
     (pre .0, (pre .1 .1 .0 .0, (pre .1 .0 .0, pre .1 .1 .1)))
 
--- src/sub.rt:77:5
 amplitudes-requires-2 : tie.Need-amplitudes-requires-2 Inv-loop μ-loop
 amplitudes-requires-2 c κs =
     let pre = c .before .before .before .before .before .before .pre in
     (pre .0, (pre .1 .1 .0 .1, (pre .1 .0 .0, pre .1 .1 .1)))
 
--- src/sub.rt:79:5
 loop-holds : tie.Need-loop-holds Inv-loop μ-loop
 loop-holds c = (search needs, refl, sym (withFrames-zero _ _))
 
--- src/sub.rt:80:21
 frame-at-requires : tie.Need-frame-at-requires Inv-loop μ-loop
 frame-at-requires c κs = search needs
 
--- src/sub.rt:80:55
 mul-t19 : tie.Need-mul-t19 Inv-loop μ-loop
 mul-t19 c = search needs
 
--- src/sub.rt:80:55
 array-read-t22 : tie.Need-array-read-t22 Inv-loop μ-loop
 array-read-t22 c = search needs
 
--- src/sub.rt:80:68
 mul-t23 : tie.Need-mul-t23 Inv-loop μ-loop
 mul-t23 c = search needs
 
--- src/sub.rt:80:68
 array-read-t26 : tie.Need-array-read-t26 Inv-loop μ-loop
 array-read-t26 c = search needs
 
--- src/sub.rt:80:13
 scaled-requires : tie.Need-scaled-requires Inv-loop μ-loop
 scaled-requires c κs = search needs
 
--- src/sub.rt:81:9
 put-frame-requires : tie.Need-put-frame-requires Inv-loop μ-loop
 put-frame-requires c κs = search needs
 
--- src/sub.rt:82:9
 add-i : tie.Need-add-i Inv-loop μ-loop
 add-i c = search needs
 
--- src/sub.rt:79:5
 loop-less : tie.Need-loop-less Inv-loop μ-loop
 loop-less c = search needs
 
--- src/sub.rt:79:5
 loop-again : tie.Need-loop-again Inv-loop μ-loop
 loop-again c =
     let l = c .before .before .before .before .before .before .before .before in
@@ -93,11 +74,9 @@ loop-again c =
     let e = withFrames-put (scaledTwice volumes fades) (l .loop .i) (args .out .now) (omega (arith, h, start .pre .1 .0 .1)) (inv .1) (inv .2) (c .before .before .before .before .scaled .ensures ∙ ap (λ (a : Frame). scaled a (product (factorOf volumes (l .loop .i)) (factorOf fades (l .loop .i)))) (c .before .before .before .before .before .frame-at .ensures)) (c .before .before .put-frame .ensures) in
     (omega (arith, h, inv .0), e .0, e .1)
 
--- src/sub.rt:59:1
 same-length : tie.Need-same-length Inv-loop μ-loop
 same-length c = search needs
 
--- src/sub.rt:59:1
 returns : tie.Need-returns Inv-loop μ-loop
 returns c =
     let l = c .before in

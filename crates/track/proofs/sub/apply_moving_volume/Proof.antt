@@ -5,19 +5,12 @@ use native.Mathlib.Omega.{arith}
 use lib.ListN.{length, replicate, length-replicate}
 use lib.Ieee.{Float, binary32, ofBits}
 use borrow.Author.Needs.{needs}
-use Rattle.track.specs.declared.frame.Frame.{Frame}
-use Rattle.track.specs.Frame.{withFrames, scaled}
-use Rattle.track.specs.FrameLaws.{withFrames-zero, withFrames-put, withFrames-end}
-use Rattle.track.specs.SteadyLaws.{product, factorOf, scaledEachBy, volume-each}
+use Rattle.frame.specs.declared.frame.Frame.{Frame}
+use Rattle.frame.specs.Frame.{withFrames, scaled}
+use Rattle.frame.proofs.laws.Frame.{withFrames-zero, withFrames-put, withFrames-end}
+use Rattle.track.proofs.laws.Steady.{product, factorOf, scaledEachBy, volume-each}
 use Rattle.track.proofs.sub.apply_moving_volume.Statement.{statement}
 use Rattle.track.proofs.sub.apply_moving_volume.Tie as tie
-use Rattle.track.proofs.sub.apply_moving_volume.Reads as reads
-use Rattle.track.proofs.sub.apply_moving_volume.Lts as lts
-use Rattle.track.proofs.chunk.Level.amplitudes.Reads as amplitudes-reads
-use Rattle.track.proofs.chunk.Level.steady_amplitude.Reads as steady-amplitude-reads
-use Rattle.track.proofs.frame.Frame.scaled.Reads as scaled-reads
-use Rattle.track.proofs.frame.frame_at.Reads as frame-at-reads
-use Rattle.track.proofs.frame.put_frame.Reads as put-frame-reads
 
 -- what the factors' array holds at first
 abbrev empty : List Float
@@ -29,49 +22,38 @@ Inv-loop out₀ frames parts table by factors i₀ out i = (i ≤ frames) × (le
 abbrev μ-loop : tie.MeasureT-loop
 μ-loop out₀ frames parts table by factors i₀ out i = frames - i
 
--- src/sub.rt:47:9
 steady-amplitude-requires : tie.Need-steady-amplitude-requires Inv-loop μ-loop
 steady-amplitude-requires c κs = search needs
 
--- src/sub.rt:49:5
 amplitudes-requires : tie.Need-amplitudes-requires Inv-loop μ-loop
 amplitudes-requires c κs =
     let pre = c .before .before .before .before .before .pre in
     (pre .0, (pre .1 .1 .0 .0, (pre .1 .0 .0, pre .1 .1 .1 .0)))
 
--- src/sub.rt:51:5
 loop-holds : tie.Need-loop-holds Inv-loop μ-loop
 loop-holds c = (search needs, refl, sym (withFrames-zero _ _))
 
--- src/sub.rt:52:21
 frame-at-requires : tie.Need-frame-at-requires Inv-loop μ-loop
 frame-at-requires c κs = search needs
 
--- src/sub.rt:52:55
 mul-t18 : tie.Need-mul-t18 Inv-loop μ-loop
 mul-t18 c = search needs
 
--- src/sub.rt:52:55
 array-read-t21 : tie.Need-array-read-t21 Inv-loop μ-loop
 array-read-t21 c = search needs
 
--- src/sub.rt:52:13
 scaled-requires : tie.Need-scaled-requires Inv-loop μ-loop
 scaled-requires c κs = search needs
 
--- src/sub.rt:53:9
 put-frame-requires : tie.Need-put-frame-requires Inv-loop μ-loop
 put-frame-requires c κs = search needs
 
--- src/sub.rt:54:9
 add-i : tie.Need-add-i Inv-loop μ-loop
 add-i c = search needs
 
--- src/sub.rt:51:5
 loop-less : tie.Need-loop-less Inv-loop μ-loop
 loop-less c = search needs
 
--- src/sub.rt:51:5
 loop-again : tie.Need-loop-again Inv-loop μ-loop
 loop-again c =
     let l = c .before .before .before .before .before .before .before .before .before in
@@ -84,11 +66,9 @@ loop-again c =
     let e = withFrames-put (scaledEachBy factors by) (l .loop .i) (args .out .now) (omega (arith, h, start .pre .1 .0 .1)) (inv .1) (inv .2) (c .before .before .before .before .scaled .ensures ∙ ap (λ (a : Frame). scaled a (product (factorOf factors (l .loop .i)) by)) (c .before .before .before .before .before .before .frame-at .ensures)) (c .before .before .put-frame .ensures) in
     (omega (arith, h, inv .0), e .0, e .1)
 
--- src/sub.rt:31:1
 same-length : tie.Need-same-length Inv-loop μ-loop
 same-length c = search needs
 
--- src/sub.rt:31:1
 returns : tie.Need-returns Inv-loop μ-loop
 returns c =
     let l = c .before in

@@ -1,41 +1,27 @@
 use mathlib.Core.Path.{sym, _∙_}
-use Rattle.track.specs.SteadyLaws.{track-steady}
 use borrow.Author.Needs.{needs}
+use Rattle.track.proofs.laws.Steady.{track-steady}
 use Rattle.track.proofs.sub.apply_volume.Statement.{statement}
 use Rattle.track.proofs.sub.apply_volume.Tie as tie
-use Rattle.track.proofs.sub.apply_volume.Reads as reads
-use Rattle.track.proofs.sub.apply_volume.Lts as lts
-use Rattle.track.proofs.chunk.Level.is_steady.Reads as is-steady-reads
-use Rattle.track.proofs.chunk.Level.steady_amplitude.Reads as steady-amplitude-reads
-use Rattle.track.proofs.frame.scale.Reads as scale-reads
-use Rattle.track.proofs.sub.apply_moving.Reads as apply-moving-reads
-use Rattle.track.proofs.sub.apply_moving_volume.Reads as apply-moving-volume-reads
 
--- src/sub.rt:95:8
 is-steady-requires : tie.Need-is-steady-requires
 is-steady-requires c κs = search needs
 
--- src/sub.rt:96:12
 is-steady-requires-2 : tie.Need-is-steady-requires-2
 is-steady-requires-2 c κs = search needs
 
--- src/sub.rt:97:17
 steady-amplitude-requires : tie.Need-steady-amplitude-requires
 steady-amplitude-requires c κs = search needs
 
--- src/sub.rt:98:17
 steady-amplitude-requires-2 : tie.Need-steady-amplitude-requires-2
 steady-amplitude-requires-2 c κs = search needs
 
--- src/sub.rt:99:13
 scale-requires : tie.Need-scale-requires
 scale-requires c κs = search needs
 
--- src/sub.rt:100:13
 same-length : tie.Need-same-length
 same-length c = search needs
 
--- src/sub.rt:100:13
 returns : tie.Need-returns
 returns c =
     let start = c .before .before .before .before .before .before .before .before .before .before .before .before .before .before .before in
@@ -45,29 +31,23 @@ returns c =
     let ranges = start .pre .1 .1 .0 in
     c .before .before .scale .ensures ∙ track-steady (args .frames) (start .pre .1 .0 .0) (args .track) (args .out .now) volume fade (ranges .0) (ranges .1) (c .before .before .before .before .before .before .before .steady-amplitude .ensures) (c .before .before .before .before .before .before .steady-amplitude2 .ensures)
 
--- src/sub.rt:102:9
 apply-moving-volume-requires : tie.Need-apply-moving-volume-requires
 apply-moving-volume-requires c κs =
     let pre = c .before .before .before .before .before .before .before .before .pre in
     (pre .0, (pre .1 .0, (pre .1 .1 .0, (pre .1 .1 .1, sym (c .before .before .before .before .is-steady .ensures) ∙ c .before .before .before .if1 .taken))))
 
--- src/sub.rt:103:9
 same-length-2 : tie.Need-same-length-2
 same-length-2 c = search needs
 
--- src/sub.rt:103:9
 returns-2 : tie.Need-returns-2
 returns-2 c = search needs
 
--- src/sub.rt:105:5
 apply-moving-requires : tie.Need-apply-moving-requires
 apply-moving-requires c κs = search needs
 
--- src/sub.rt:80:1
 same-length-3 : tie.Need-same-length-3
 same-length-3 c = search needs
 
--- src/sub.rt:80:1
 returns-3 : tie.Need-returns-3
 returns-3 c = search needs
 

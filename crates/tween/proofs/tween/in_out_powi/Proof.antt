@@ -2,8 +2,8 @@
 use mathlib.Core.Path.{sym, ap, _∙_}
 use lib.Ieee.{Float, binary64, add, sub, mul, ofBits}
 use borrow.Author.Needs.{needs}
-use Rattle.laws.specs.Choice.{cond-true, cond-false}
-use Rattle.laws.specs.FloatLiteral.{half, one}
+use Rattle.laws.proofs.laws.Choice.{cond-true, cond-false}
+use Rattle.laws.specs.Float.{half, one}
 use Rattle.tween.specs.Tween.{inOutPowi}
 use Rattle.tween.proofs.tween.in_out_powi.Statement.{statement}
 use Rattle.tween.proofs.tween.in_out_powi.Tie as tie

@@ -9,7 +9,7 @@ use native.Mathlib.Omega.{arith}
 use lib.Dec.{eqb}
 use lib.Ieee.{Float, binary64, mul, ofBits}
 use borrow.Author.Tests.{eq-eqb, ne-eqb}
-use Rattle.laws.specs.Choice.{cond-true, cond-false}
+use Rattle.laws.proofs.laws.Choice.{cond-true, cond-false}
 use Rattle.tween.specs.Tween.{powiFrom, powi}
 use Rattle.tween.proofs.tween.powi.Statement.{statement}
 use Rattle.tween.proofs.tween.powi.Tie as tie

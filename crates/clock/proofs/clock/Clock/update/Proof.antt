@@ -8,9 +8,8 @@ use borrow.Author.Tests.{not-true, not-false}
 use Rattle.clock.specs.declared.clock.ClockState.{ClockState}
 use Rattle.clock.specs.declared.clock.Clock.{Clock}
 use Rattle.clock.specs.ClockSpeed.{asTicksPerSecond}
-use Rattle.clock.specs.Clock.{ticksOf, fractionOf, taken, updated, CanMove}
-use Rattle.clock.specs.Ticks.{CanTake}
-use Rattle.clock.specs.Moves.{updated-still, updated-ticking, can-take}
+use Rattle.clock.specs.Clock.{ticksOf, fractionOf, taken, updated, CanMove, CanTake}
+use Rattle.clock.proofs.laws.Moves.{updated-still, updated-ticking, can-take}
 use Rattle.clock.proofs.clock.Clock.update.Statement.{statement}
 use Rattle.clock.proofs.clock.Clock.update.Tie as tie
 

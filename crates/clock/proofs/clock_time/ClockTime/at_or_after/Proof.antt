@@ -1,7 +1,7 @@
 -- `ClockTime::at_or_after` meets its contract: each return is the definition's case. Assumes nothing.
 use mathlib.Core.Path.{sym, _∙_}
 use borrow.Author.Tests.{eq-eqb, ne-eqb}
-use Rattle.laws.specs.Choice.{cond-true, cond-false}
+use Rattle.laws.proofs.laws.Choice.{cond-true, cond-false}
 use Rattle.clock.specs.ClockTime.{atOrAfter}
 use Rattle.clock.proofs.clock_time.ClockTime.at_or_after.Statement.{statement}
 use Rattle.clock.proofs.clock_time.ClockTime.at_or_after.Tie as tie

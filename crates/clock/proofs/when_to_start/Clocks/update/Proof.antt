@@ -7,12 +7,13 @@ use native.Mathlib.Omega.{arith}
 use mathlib.Core.List.{List}
 use lib.ListN.{getD, set}
 use lib.Ieee.{Float}
-use Rattle.laws.specs.Loop.{changed, changed-zero, changed-here, changed-end}
+use Rattle.laws.specs.Loop.{changed}
+use Rattle.laws.proofs.laws.Loop.{changed-zero, changed-here, changed-end}
 use Rattle.clock.specs.declared.clock.Clock.{Clock}
 use Rattle.clock.specs.declared.when_to_start.Clocks.{Clocks}
 use Rattle.clock.specs.Clock.{updated, CanMove}
-use Rattle.clock.specs.WhenToStart.{noClock, clocksUpdated, CanMoveAll}
-use Rattle.clock.specs.ClocksMove.{changed-turn-any}
+use Rattle.clock.specs.WhenToStart.{clocksUpdated, CanMoveAll, absentClock}
+use Rattle.clock.proofs.laws.ClocksMove.{changed-turn-any}
 use Rattle.clock.proofs.when_to_start.Clocks.update.Statement.{statement}
 use Rattle.clock.proofs.when_to_start.Clocks.update.Tie as tie
 
@@ -47,9 +48,9 @@ array-copy-out-clock : tie.Need-array-copy-out-clock Inv-loop μ-loop
 array-copy-out-clock c = inside _ _ (c .loop-test .taken) (c .before .loop .inv .1) .within
 
 -- the clock at i has not moved yet
-asked : (cs : Clocks) (dt : Float) (i : ℕ) (now : List Clock) → CanMoveAll cs dt → i < cs .count → now ≡ changed (moved dt) i (cs .clocks) → CanMove (getD now i noClock) dt
+asked : (cs : Clocks) (dt : Float) (i : ℕ) (now : List Clock) → CanMoveAll cs dt → i < cs .count → now ≡ changed (moved dt) i (cs .clocks) → CanMove (getD now i absentClock) dt
 asked cs dt i now k h e =
-    subst (λ (c : Clock). CanMove c dt) (sym (ap (λ (l : List Clock). getD l i noClock) e ∙ changed-here (moved dt) i (cs .clocks) noClock))
+    subst (λ (c : Clock). CanMove c dt) (sym (ap (λ (l : List Clock). getD l i absentClock) e ∙ changed-here (moved dt) i (cs .clocks) absentClock))
     (record { clock = k .clocks .each i h; step = k .step })
 
 update-requires : tie.Need-update-requires Inv-loop μ-loop
@@ -77,7 +78,7 @@ loop-again c =
       add-one-le (c .before .before .loop-test .taken),
       l .loop .inv .1,
       ap (λ (z : Clock). set (l .loop .clocks) (l .loop .i) z) (c .update .ensures)
-          ∙ changed-turn-any (moved (start .args .dt)) (l .loop .i) (start .args .self .clocks) noClock (l .loop .inv .2),
+          ∙ changed-turn-any (moved (start .args .dt)) (l .loop .i) (start .args .self .clocks) absentClock (l .loop .inv .2),
     )
 
 returns : tie.Need-returns Inv-loop μ-loop

@@ -4,7 +4,7 @@ use borrow.Author.Needs.{needs}
 use borrow.Author.Tests.{not-true, not-false}
 use Rattle.clock.specs.declared.clock_time.ClockTime.{ClockTime}
 use Rattle.clock.specs.ClockTime.{atOrAfter}
-use Rattle.clock.specs.Starts.{starts-never, starts-not-ticking, starts-now, starts-not-come}
+use Rattle.clock.proofs.laws.Starts.{starts-never, starts-not-ticking, starts-now, starts-not-come}
 use Rattle.clock.proofs.when_to_start.Clocks.when_to_start.Statement.{statement}
 use Rattle.clock.proofs.when_to_start.Clocks.when_to_start.Tie as tie
 

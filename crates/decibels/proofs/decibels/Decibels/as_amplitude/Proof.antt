@@ -5,7 +5,7 @@ use mathlib.Core.Bool.{true, false}
 use mathlib.Core.Option.{none, some}
 use lib.Ieee.{Float, nan, inf, fin, le, isNan, ofInt, ofBits}
 use borrow.Author.Needs.{needs}
-use Rattle.laws.specs.Choice.{cond-true, cond-false, true-T}
+use Rattle.laws.proofs.laws.Choice.{cond-true, cond-false, true-T}
 use Rattle.decibels.specs.Decibels.{amplitude, admitted, limit}
 use Rattle.decibels.specs.Answer.{Answer, answered, amplitudeAnswer}
 use Rattle.decibels.proofs.decibels.Decibels.as_amplitude.Statement.{statement}

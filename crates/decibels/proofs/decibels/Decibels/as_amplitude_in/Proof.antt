@@ -5,10 +5,11 @@ use mathlib.Core.Bool.{true, false, cond}
 use Prim.Native.Nat.{ℕ, _^_}
 use lib.Ieee.{Float, binary32, binary64, fits, eq, le, div, neg, ofInt, ofBits}
 use borrow.Author.Needs.{needs}
-use Rattle.number.specs.Narrow.{narrowed}
-use Rattle.laws.specs.Choice.{cond-true, cond-false, false-T, true-T}
-use Rattle.decibels.specs.Decibels.{whole, silence, amplitude, curve, lineAt, entryBelow, restAbove, OnTable}
-use Rattle.decibels.specs.Decibels.Position.{steps, on-table}
+use Rattle.laws.specs.Float.{whole}
+use Rattle.rounding.specs.Narrow.{narrowed}
+use Rattle.laws.proofs.laws.Choice.{cond-true, cond-false, false-T, true-T}
+use Rattle.decibels.specs.Decibels.{silence, amplitude, curve, lineAt, entryBelow, restAbove, OnTable}
+use Rattle.decibels.proofs.laws.Position.{steps, on-table}
 use Rattle.decibels.proofs.decibels.Decibels.as_amplitude_in.Statement.{statement}
 use Rattle.decibels.proofs.decibels.Decibels.as_amplitude_in.Tie as tie
 

@@ -4,7 +4,7 @@ use mathlib.Core.Path.{sym, _∙_}
 use mathlib.Core.Bool.{not}
 use lib.Ieee.{binary64, fits, isNan, ofInt, ofBits}
 use lib.Ieee.Fits.{and-i, fits-widens}
-use Rattle.decibels.specs.SegmentLaws.{held-no-nan, inside-amplitude, inside-normal}
+use Rattle.decibels.proofs.laws.Segment.{held-no-nan, inside-amplitude, inside-normal}
 use Rattle.decibels.proofs.segment.Segment.amplitude_of.Statement.{statement}
 use Rattle.decibels.proofs.segment.Segment.amplitude_of.Tie as tie
 

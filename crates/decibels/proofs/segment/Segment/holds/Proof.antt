@@ -2,18 +2,18 @@
 use mathlib.Core.Path.{sym, ap}
 use mathlib.Core.Bool.{Bool, _&&_}
 use lib.Ieee.{lt}
-use Rattle.decibels.specs.Segment.{holds}
 use Rattle.decibels.proofs.segment.Segment.holds.Statement.{statement}
+use Rattle.decibels.specs.Segment.{contains}
 use Rattle.decibels.proofs.segment.Segment.holds.Tie as tie
 
 returns : tie.Need-returns
-unfolding holds
+unfolding contains
 returns c =
     let start = c .before .before .before in
     sym (ap (λ (b : Bool). b && lt (start .args .level .0) (start .args .self .high)) (c .before .if1 .taken))
 
 returns-2 : tie.Need-returns-2
-unfolding holds
+unfolding contains
 returns-2 c =
     let start = c .before .before in
     sym (ap (λ (b : Bool). b && lt (start .args .level .0) (start .args .self .high)) (c .if1 .left))

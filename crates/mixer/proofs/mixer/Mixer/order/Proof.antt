@@ -4,8 +4,8 @@ use borrow.Author.Needs.{needs}
 use Rattle.tween.specs.declared.tween.Tween.{Tween}
 use Rattle.parameter.specs.Parameter.{parameterSet}
 use Rattle.mixer.specs.Sub.{trackSet, trackPause}
-use Rattle.mixer.specs.Orders.{withMain, withTrack, withSend, withRoute, orderedBy}
-use Rattle.mixer.proofs.Ordered.{names-volume, names-send, names-route, names-pause, by-order}
+use Rattle.mixer.specs.Orders.{orderedBy, mapMain, mapTrack, mapSend, mapRoute}
+use Rattle.mixer.proofs.laws.Ordered.{names-volume, names-send, names-route, names-pause, by-order}
 use Rattle.mixer.proofs.mixer.Mixer.order.Statement.{statement}
 use Rattle.mixer.proofs.mixer.Mixer.order.Tie as tie
 
@@ -50,35 +50,35 @@ unfolding orderedBy
 returns c =
     let o = c .before .before .before .before .before .args .order in
     let m = c .before .before .before .before .before .args .self in
-    by-order o m (c .before .enum-told .given .1) (c .set-main-volume .ensures ∙ ap (λ (tween : Tween). withMain (λ p. parameterSet p (o .target) tween) m) (c .before .before .before .before .tween-of .ensures))
+    by-order o m (c .before .enum-told .given .1) (c .set-main-volume .ensures ∙ ap (λ (tween : Tween). mapMain (λ p. parameterSet p (o .target) tween) m) (c .before .before .before .before .tween-of .ensures))
 
 returns-2 : tie.Need-returns-2
 unfolding orderedBy
 returns-2 c =
     let o = c .before .before .before .before .before .args .order in
     let m = c .before .before .before .before .before .args .self in
-    by-order o m (c .before .enum-told2 .given .1) (c .set-track-volume .ensures ∙ ap (λ (tween : Tween). withTrack (o .index) (λ t. trackSet t (o .target) tween) m) (c .before .before .before .before .tween-of .ensures))
+    by-order o m (c .before .enum-told2 .given .1) (c .set-track-volume .ensures ∙ ap (λ (tween : Tween). mapTrack (o .index) (λ t. trackSet t (o .target) tween) m) (c .before .before .before .before .tween-of .ensures))
 
 returns-3 : tie.Need-returns-3
 unfolding orderedBy
 returns-3 c =
     let o = c .before .before .before .before .before .args .order in
     let m = c .before .before .before .before .before .args .self in
-    by-order o m (c .before .enum-told3 .given .1) (c .set-send-volume .ensures ∙ ap (λ (tween : Tween). withSend (o .index) (λ p. parameterSet p (o .target) tween) m) (c .before .before .before .before .tween-of .ensures))
+    by-order o m (c .before .enum-told3 .given .1) (c .set-send-volume .ensures ∙ ap (λ (tween : Tween). mapSend (o .index) (λ p. parameterSet p (o .target) tween) m) (c .before .before .before .before .tween-of .ensures))
 
 returns-4 : tie.Need-returns-4
 unfolding orderedBy
 returns-4 c =
     let o = c .before .before .before .before .before .args .order in
     let m = c .before .before .before .before .before .args .self in
-    by-order o m (c .before .enum-told4 .given .1) (c .set-route-volume .ensures ∙ ap (λ (tween : Tween). withRoute (o .index) (λ p. parameterSet p (o .target) tween) m) (c .before .before .before .before .tween-of .ensures))
+    by-order o m (c .before .enum-told4 .given .1) (c .set-route-volume .ensures ∙ ap (λ (tween : Tween). mapRoute (o .index) (λ p. parameterSet p (o .target) tween) m) (c .before .before .before .before .tween-of .ensures))
 
 returns-5 : tie.Need-returns-5
 unfolding orderedBy
 returns-5 c =
     let o = c .before .before .before .before .before .args .order in
     let m = c .before .before .before .before .before .args .self in
-    by-order o m (c .before .enum-told5 .given .1) (c .pause-track .ensures ∙ ap (λ (tween : Tween). withTrack (o .index) (λ t. trackPause t tween) m) (c .before .before .before .before .tween-of .ensures))
+    by-order o m (c .before .enum-told5 .given .1) (c .pause-track .ensures ∙ ap (λ (tween : Tween). mapTrack (o .index) (λ t. trackPause t tween) m) (c .before .before .before .before .tween-of .ensures))
 
 returns-6 : tie.Need-returns-6
 unfolding orderedBy

@@ -3,8 +3,8 @@ use mathlib.Core.Path.{refl, ap, _∙_}
 use borrow.Author.Needs.{needs}
 use Rattle.tween.specs.declared.tween.Tween.{Tween}
 use Rattle.mixer.specs.Sub.{trackResume}
-use Rattle.mixer.specs.Orders.{withTrack, resumedBy}
-use Rattle.mixer.proofs.Ordered.{names-resume, by-resume}
+use Rattle.mixer.specs.Orders.{resumedBy, mapTrack}
+use Rattle.mixer.proofs.laws.Ordered.{names-resume, by-resume}
 use Rattle.mixer.proofs.mixer.Mixer.resume.Statement.{statement}
 use Rattle.mixer.proofs.mixer.Mixer.resume.Tie as tie
 
@@ -58,7 +58,7 @@ returns-6 c =
     let o = c .before .before .before .before .args .order in
     let m = c .before .before .before .before .args .self in
     by-resume o m (c .before .enum-told6 .given .1)
-    (c .resume-track .ensures ∙ ap (λ (tween : Tween). withTrack (o .index) (λ t. trackResume t (o .«start_time») tween) m) (c .before .before .before .resume-tween-of .ensures))
+    (c .resume-track .ensures ∙ ap (λ (tween : Tween). mapTrack (o .index) (λ t. trackResume t (o .«start_time») tween) m) (c .before .before .before .resume-tween-of .ensures))
 
 pub resume-spec : {M : Type 1} → statement M
 resume-spec =

@@ -2,9 +2,9 @@
 use mathlib.Core.Path.{sym, _∙_}
 use native.Mathlib.Nat.{lt-of-lt-of-le}
 use lib.Dec.{lit<}
-use Rattle.laws.specs.Choice.{cond-true, cond-false}
+use Rattle.laws.proofs.laws.Choice.{cond-true, cond-false}
 use Rattle.mixer.specs.Orders.{resumeStep}
-use Rattle.mixer.proofs.Turns.{scaled}
+use Rattle.mixer.proofs.laws.Turns.{scaled}
 use Rattle.mixer.proofs.mixer.Mixer.resume_at.Statement.{statement}
 use Rattle.mixer.proofs.mixer.Mixer.resume_at.Tie as tie
 

@@ -2,15 +2,15 @@
 use mathlib.Core.Path.{ap}
 use Rattle.parameter.specs.declared.parameter.Parameter.{Parameter}
 use Rattle.mixer.specs.declared.mixer.Mixer.{Mixer}
-use Rattle.mixer.specs.Orders.{withMain}
 use Rattle.mixer.proofs.mixer.Mixer.set_main_volume.Statement.{statement}
+use Rattle.mixer.specs.Orders.{mapMain}
 use Rattle.mixer.proofs.mixer.Mixer.set_main_volume.Tie as tie
 
 set-requires : tie.Need-set-requires
 set-requires c κs = tt
 
 returns : tie.Need-returns
-unfolding withMain
+unfolding mapMain
 returns c =
     let m = c .before .before .args .self in
     ap {B = Mixer} (λ (p : Parameter). record { clocks = m .clocks; «main_volume» = p; tracks = m .tracks; sends = m .sends; routes = m .routes; played = m .played }) (c .set .ensures)

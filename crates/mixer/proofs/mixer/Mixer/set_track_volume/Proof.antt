@@ -2,8 +2,8 @@
 use native.Mathlib.Nat.{le-refl}
 use lib.Dec.{lit<}
 use Rattle.mixer.specs.Sub.{trackSet}
-use Rattle.mixer.proofs.Turns.{scaled, line-within}
-use Rattle.mixer.proofs.Ordered.{track-stored}
+use Rattle.mixer.proofs.laws.Turns.{scaled, line-within}
+use Rattle.mixer.proofs.laws.Ordered.{track-stored}
 use Rattle.mixer.proofs.mixer.Mixer.set_track_volume.Statement.{statement}
 use Rattle.mixer.proofs.mixer.Mixer.set_track_volume.Tie as tie
 

@@ -4,15 +4,13 @@ use Prim.Native.Nat.{_-_, _≤_, zero-le}
 use native.Mathlib.Nat.{lt-of-lt-of-le}
 use native.Mathlib.Numerals.{add-one-le}
 use lib.Dec.{lit<}
-use Rattle.laws.specs.Loop.{upto, upto-zero, upto-turn}
-use Rattle.laws.specs.Choice.{cond-false}
+use Rattle.laws.specs.Loop.{upto}
+use Rattle.laws.proofs.laws.Loop.{upto-zero, upto-turn}
+use Rattle.laws.proofs.laws.Choice.{cond-false}
 use Rattle.mixer.specs.Orders.{resumeStep}
-use Rattle.mixer.proofs.Turns.{scaled, next-fits, falls, upto-ended, order-skipped}
+use Rattle.mixer.proofs.laws.Turns.{scaled, next-fits, falls, upto-ended, order-skipped}
 use Rattle.mixer.proofs.mixer.Mixer.with_resumes.Statement.{statement}
 use Rattle.mixer.proofs.mixer.Mixer.with_resumes.Tie as tie
-use Rattle.mixer.proofs.mixer.Mixer.with_resumes.Reads as reads
-use Rattle.mixer.proofs.mixer.Mixer.with_resumes.Lts as lts
-use Rattle.mixer.proofs.mixer.Mixer.resume_at.Reads as resume-at-reads
 
 abbrev Inv-loop : tie.InvT-loop
 Inv-loop scene block count orders mixer₀ i₀ mixer i = (i ≤ scene .«order_count») × (mixer ≡ upto (resumeStep scene block) i mixer₀)

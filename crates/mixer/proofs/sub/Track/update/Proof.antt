@@ -1,6 +1,6 @@
 -- `Track::update` meets its contract: the test is the definition's. Assumes nothing.
 use mathlib.Core.Path.{sym, _∙_}
-use Rattle.laws.specs.Choice.{cond-true, cond-false}
+use Rattle.laws.proofs.laws.Choice.{cond-true, cond-false}
 use Rattle.mixer.specs.Sub.{trackUpdate}
 use Rattle.mixer.proofs.sub.Track.update.Statement.{statement}
 use Rattle.mixer.proofs.sub.Track.update.Tie as tie

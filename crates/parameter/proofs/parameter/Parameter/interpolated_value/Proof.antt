@@ -1,6 +1,6 @@
 -- `Parameter::interpolated_value` meets its contract. Assumes nothing.
-use Rattle.parameter.specs.Parameter.{interpolatedValue}
 use borrow.Author.Needs.{needs}
+use Rattle.parameter.specs.Parameter.{interpolatedValue}
 use Rattle.parameter.proofs.parameter.Parameter.interpolated_value.Statement.{statement}
 use Rattle.parameter.proofs.parameter.Parameter.interpolated_value.Tie as tie
 

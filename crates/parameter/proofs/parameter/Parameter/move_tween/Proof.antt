@@ -1,9 +1,9 @@
 -- `Parameter::move_tween` meets its contract: the test is the definition's. Assumes nothing.
 use mathlib.Core.Path.{sym, ap, _∙_}
 use lib.Ieee.{Float, le}
-use Rattle.laws.specs.Choice.{cond-true, cond-false}
-use Rattle.parameter.specs.Parameter.{withState, tweenMove}
 use borrow.Author.Needs.{needs}
+use Rattle.laws.proofs.laws.Choice.{cond-true, cond-false}
+use Rattle.parameter.specs.Parameter.{withState, tweenMove}
 use Rattle.parameter.proofs.parameter.Parameter.move_tween.Statement.{statement}
 use Rattle.parameter.proofs.parameter.Parameter.move_tween.Tie as tie
 

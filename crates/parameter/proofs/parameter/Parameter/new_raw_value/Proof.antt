@@ -2,7 +2,7 @@
 use mathlib.Core.Path.{sym, ap, _∙_}
 use borrow.Author.Needs.{needs}
 use borrow.Author.Tests.{eq-eqb, ne-eqb}
-use Rattle.laws.specs.Choice.{cond-true, cond-false}
+use Rattle.laws.proofs.laws.Choice.{cond-true, cond-false}
 use Rattle.tween.specs.Tweenable.{interpolated}
 use Rattle.parameter.specs.declared.parameter.ParameterState.{ParameterState}
 use Rattle.parameter.specs.Parameter.{valueIn, newRawValue}

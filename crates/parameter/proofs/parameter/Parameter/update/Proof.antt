@@ -1,10 +1,10 @@
 -- `Parameter::update` meets its contract. Assumes nothing.
 use mathlib.Core.Path.{sym, ap, _∙_}
-use Rattle.laws.specs.Choice.{cond-true, cond-false}
+use borrow.Author.Needs.{needs}
+use Rattle.laws.proofs.laws.Choice.{cond-true, cond-false}
 use Rattle.decibels.specs.declared.decibels.Decibels.{Decibels}
 use Rattle.parameter.specs.declared.parameter.ParameterUpdate.{ParameterUpdate}
 use Rattle.parameter.specs.Parameter.{withPrevious, withNewValue, parameterUpdate}
-use borrow.Author.Needs.{needs}
 use Rattle.parameter.proofs.parameter.Parameter.update.Statement.{statement}
 use Rattle.parameter.proofs.parameter.Parameter.update.Tie as tie
 

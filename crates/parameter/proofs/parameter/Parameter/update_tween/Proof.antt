@@ -3,7 +3,7 @@ use mathlib.Core.Path.{_≡_, sym, ap, _∙_}
 use mathlib.Core.Bool.{true, false, cond}
 use lib.Ieee.{Float, binary64, add}
 use borrow.Author.Needs.{needs}
-use Rattle.laws.specs.Choice.{cond-true, cond-false}
+use Rattle.laws.proofs.laws.Choice.{cond-true, cond-false}
 use Rattle.decibels.specs.declared.decibels.Decibels.{Decibels}
 use Rattle.clock.specs.declared.when_to_start.Clocks.{Clocks}
 use Rattle.tween.specs.declared.tween.Tween.{Tween}

@@ -1,7 +1,7 @@
 -- `PlaybackState::is_advancing` meets its contract: each arm is the definition's. Assumes nothing.
 use mathlib.Core.Path.{sym, ap}
-use Rattle.playback.specs.PlaybackStateManager.{isAdvancing}
 use borrow.Author.Needs.{needs}
+use Rattle.playback.specs.PlaybackStateManager.{isAdvancing}
 use Rattle.playback.proofs.playback_state_manager.PlaybackState.is_advancing.Statement.{statement}
 use Rattle.playback.proofs.playback_state_manager.PlaybackState.is_advancing.Tie as tie
 

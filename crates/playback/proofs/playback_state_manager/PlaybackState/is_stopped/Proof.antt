@@ -1,7 +1,7 @@
 -- `PlaybackState::is_stopped` meets its contract: each arm is the definition's. Assumes nothing.
 use mathlib.Core.Path.{sym, ap}
-use Rattle.playback.specs.PlaybackStateManager.{isStopped}
 use borrow.Author.Needs.{needs}
+use Rattle.playback.specs.PlaybackStateManager.{isStopped}
 use Rattle.playback.proofs.playback_state_manager.PlaybackState.is_stopped.Statement.{statement}
 use Rattle.playback.proofs.playback_state_manager.PlaybackState.is_stopped.Tie as tie
 

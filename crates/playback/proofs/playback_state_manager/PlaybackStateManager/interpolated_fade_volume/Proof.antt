@@ -1,6 +1,6 @@
 -- `PlaybackStateManager::interpolated_fade_volume` meets its contract. Assumes nothing.
-use Rattle.playback.specs.PlaybackStateManager.{interpolatedFadeVolume}
 use borrow.Author.Needs.{needs}
+use Rattle.playback.specs.PlaybackStateManager.{interpolatedFadeVolume}
 use Rattle.playback.proofs.playback_state_manager.PlaybackStateManager.interpolated_fade_volume.Statement.{statement}
 use Rattle.playback.proofs.playback_state_manager.PlaybackStateManager.interpolated_fade_volume.Tie as tie
 

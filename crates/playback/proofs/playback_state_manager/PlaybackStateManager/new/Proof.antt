@@ -1,11 +1,11 @@
 -- `PlaybackStateManager::new` meets its contract. Assumes nothing.
 use mathlib.Core.Path.{ap}
 use lib.Ieee.{ofInt, ofBits}
+use borrow.Author.Needs.{needs}
 use Rattle.parameter.specs.declared.parameter.Parameter.{Parameter}
 use Rattle.playback.specs.declared.playback_state_manager.PlaybackState.the-variants.{Playing}
 use Rattle.playback.specs.declared.playback_state_manager.PlaybackStateManager.{PlaybackStateManager}
 use Rattle.playback.specs.PlaybackStateManager.{playbackNew}
-use borrow.Author.Needs.{needs}
 use Rattle.playback.proofs.playback_state_manager.PlaybackStateManager.new.Statement.{statement}
 use Rattle.playback.proofs.playback_state_manager.PlaybackStateManager.new.Tie as tie
 

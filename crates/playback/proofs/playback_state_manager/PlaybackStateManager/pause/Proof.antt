@@ -1,12 +1,12 @@
 -- `PlaybackStateManager::pause` meets its contract: the test is the definition's. Assumes nothing.
 use mathlib.Core.Path.{sym, ap, _∙_}
 use lib.Ieee.{ofInt, ofBits, neg}
-use Rattle.laws.specs.Choice.{cond-true, cond-false}
+use borrow.Author.Needs.{needs}
+use Rattle.laws.proofs.laws.Choice.{cond-true, cond-false}
 use Rattle.parameter.specs.declared.parameter.Parameter.{Parameter}
 use Rattle.playback.specs.declared.playback_state_manager.PlaybackState.the-variants.{Pausing}
 use Rattle.playback.specs.declared.playback_state_manager.PlaybackStateManager.{PlaybackStateManager}
 use Rattle.playback.specs.PlaybackStateManager.{playbackPause}
-use borrow.Author.Needs.{needs}
 use Rattle.playback.proofs.playback_state_manager.PlaybackStateManager.pause.Statement.{statement}
 use Rattle.playback.proofs.playback_state_manager.PlaybackStateManager.pause.Tie as tie
 

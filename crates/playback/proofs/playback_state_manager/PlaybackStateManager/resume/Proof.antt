@@ -1,7 +1,7 @@
 -- `PlaybackStateManager::resume` meets its contract: the tests are the definition's. Assumes nothing.
 use mathlib.Core.Path.{sym, _∙_}
 use borrow.Author.Needs.{needs}
-use Rattle.laws.specs.Choice.{cond-true, cond-false}
+use Rattle.laws.proofs.laws.Choice.{cond-true, cond-false}
 use Rattle.playback.specs.PlaybackStateManager.{resumedAt, playbackResume}
 use Rattle.playback.proofs.playback_state_manager.PlaybackStateManager.resume.Statement.{statement}
 use Rattle.playback.proofs.playback_state_manager.PlaybackStateManager.resume.Tie as tie

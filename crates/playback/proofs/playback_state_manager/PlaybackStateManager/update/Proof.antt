@@ -1,8 +1,8 @@
 -- `PlaybackStateManager::update` meets its contract. Assumes nothing.
 use mathlib.Core.Path.{ap, _∙_}
+use borrow.Author.Needs.{needs}
 use Rattle.parameter.specs.declared.parameter.ParameterUpdate.{ParameterUpdate}
 use Rattle.playback.specs.PlaybackStateManager.{stateUpdate, playbackUpdate}
-use borrow.Author.Needs.{needs}
 use Rattle.playback.proofs.playback_state_manager.PlaybackStateManager.update.Statement.{statement}
 use Rattle.playback.proofs.playback_state_manager.PlaybackStateManager.update.Tie as tie
 

@@ -6,7 +6,7 @@ use lib.Dec.{eqb}
 use lib.Ieee.{Float}
 use borrow.Author.Needs.{needs}
 use borrow.Author.Tests.{ne-eqb}
-use Rattle.laws.specs.Choice.{cond-false}
+use Rattle.laws.proofs.laws.Choice.{cond-false}
 use Rattle.tween.specs.declared.start_time.StartTime.{StartTime}
 use Rattle.tween.specs.declared.start_time.StartTime.the-variants.{Immediate, Delayed}
 use Rattle.tween.specs.declared.start_time.StartTimeUpdate.{StartTimeUpdate}

@@ -2,7 +2,7 @@
 use mathlib.Core.Path.{sym, ap, _∙_}
 use lib.Ieee.{binary64, sub, ofBits}
 use borrow.Author.Needs.{needs}
-use Rattle.laws.specs.FloatLiteral.{one}
+use Rattle.laws.specs.Float.{one}
 use Rattle.tween.specs.declared.tween.Easing.{Easing}
 use Rattle.tween.specs.Tween.{easingApply}
 use Rattle.tween.proofs.tween.Easing.apply.Statement.{statement}

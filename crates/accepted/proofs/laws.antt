@@ -1,0 +1,4 @@
+pub mod Passed
+pub mod Line
+pub mod Values
+pub mod Accepted

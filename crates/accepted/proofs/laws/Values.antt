@@ -1,0 +1,109 @@
+-- From the numbers of a line to the values of the scene. A number z of the file stands for z - 2^31. Assumes nothing.
+use mathlib.Core.Path.{_≡_, refl}
+use mathlib.Core.Bool.{Bool, true, false, cond, _&&_, true≢false}
+use Prim.Native.Nat.{ℕ, suc, _-_, _*_, _/_, _≤_, _<_}
+use native.Mathlib.Omega.{arith}
+use borrow.Author.Tests.{leb-true, leb-false, eqb-true, eqb-false, ne-eqb}
+use lib.Dec.{T, eqb, leb, lit<}
+use lib.IntN.{pos, negsuc}
+use lib.Ieee.{Float, binary32, binary64, fits, ofInt, div, neg, le}
+use lib.Ieee.Fits.{div-fits}
+use Rattle.laws.proofs.laws.Choice.{true-T}
+use Rattle.laws.specs.FloatBounds.{Within}
+use Rattle.laws.proofs.laws.FloatBounds.{holds-small, holds-value, within-of-tests}
+use Rattle.laws.specs.DecibelRange.{TargetRange}
+use Rattle.laws.proofs.laws.DecibelRange.{thousandths-target}
+use Rattle.clock.specs.declared.clock_speed.ClockSpeed.the-variants.{SecondsPerTick, TicksPerSecond, TicksPerMinute}
+use Rattle.clock.specs.ClockSpeed.{asTicksPerSecond}
+use Rattle.tween.specs.declared.start_time.StartTime.the-variants.{Immediate, Delayed, ClockTime}
+use Rattle.tween.specs.StartTime.{ClockThere}
+use Rattle.scene_tables.specs.Tables.{natural, tracks, sends, routes, raised, raisedMinus}
+use Rattle.scene.specs.declared.scene.OrderKind.the-variants.{MainVolume, TrackVolume, SendVolume, RouteVolume, Pause, Resume}
+use Rattle.scene_questions.specs.Questions.{Tables, linesAt, speedNumber, speedOf, targetTable, indexNamesLine, sampleOk}
+use Rattle.scene.specs.Scene.{volumeOf, kindOf, clockTimeOf, startTimeOf, sceneOf}
+use Rattle.scene_questions.proofs.laws.Loops.{and-left, and-right}
+use Rattle.accepted.specs.SceneOk.{IndexOk}
+use Rattle.accepted.proofs.laws.Line.{both-le}
+
+-- ---- numbers
+
+pub natural-between : (a b z : ℕ) → (raised a ≤ z) × (z ≤ raised b) → (a ≤ natural z) × (natural z ≤ b)
+natural-between a b z h = (omega arith, omega arith)
+
+pub natural-line : (a lines z : ℕ) → (raised a ≤ z) × (natural z ≤ lines) → (a ≤ natural z) × (natural z ≤ lines)
+natural-line a lines z h = (omega arith, h .1)
+
+pub natural-below : (z w : ℕ) → raised 0 ≤ z → z < w → natural z < natural w
+natural-below z w h k = omega arith
+
+-- ---- volumes
+
+pub volume-target : (z : ℕ) → (raisedMinus 96000 ≤ z) × (z ≤ raised 18000) → TargetRange (volumeOf z .0)
+unfolding volumeOf ofInt
+volume-target z h = go (leb 2147483648 z) refl
+  where
+    go : (b : Bool) → leb 2147483648 z ≡ b → TargetRange (div binary32 (ofInt binary32 (cond b (pos (z - 2147483648)) (negsuc (2147483648 - suc z)))) (ofInt binary32 (pos 1000)))
+    go true e = let k : 2147483648 ≤ z = leb-true 2147483648 z e in thousandths-target false (z - 2147483648) (omega arith)
+    go false e = let k : z < 2147483648 = leb-false 2147483648 z e in thousandths-target true (suc (2147483648 - suc z)) (omega arith)
+
+-- ---- clocks
+
+pub speed-fits : (unit speed : ℕ) → T (fits binary64 (asTicksPerSecond (speedOf unit speed)))
+unfolding speedOf speedNumber asTicksPerSecond
+speed-fits unit speed = go (eqb unit (raised 0)) (eqb unit (raised 1))
+  where
+    go : (a b : Bool) → T (fits binary64 (asTicksPerSecond (cond a (SecondsPerTick (speedNumber speed)) (cond b (TicksPerSecond (speedNumber speed)) (TicksPerMinute (speedNumber speed))))))
+    go true b = div-fits binary64 _ _
+    go false true = div-fits binary64 _ _
+    go false false = div-fits binary64 _ _
+
+-- ---- orders
+
+pub start-there : (count clock when part : ℕ) → (raised 0 ≤ clock) × (natural clock ≤ count) → ClockThere count (startTimeOf clock when part)
+unfolding startTimeOf clockTimeOf
+start-there count clock when part h = go (eqb clock (raised 0)) refl (eqb when (raised 0))
+  where
+    go : (a : Bool) → eqb clock (raised 0) ≡ a → (b : Bool) → ClockThere count (cond a (cond b Immediate (Delayed (natural when * 1000000))) (ClockTime (clockTimeOf clock when part)))
+    go true e true = tt
+    go true e false = tt
+    go false e b = let n = eqb-false clock (raised 0) e in omega arith
+
+module _ (ts : Tables) (kind index : ℕ) where
+  there : (t : ℕ) → (leb (raised 1) index && leb (natural index) (linesAt ts t)) ≡ true → (1 ≤ natural index) × (natural index ≤ linesAt ts t)
+  there t e = natural-line 1 (linesAt ts t) index (both-le (raised 1) index (natural index) (linesAt ts t) e)
+
+  -- kind 1 is neither 2 nor 3
+  one-kind : eqb kind (raised 1) ≡ true → (eqb kind (raised 2) ≡ false) × (eqb kind (raised 3) ≡ false)
+  one-kind e =
+      let h : kind ≡ raised 1 = eqb-true kind (raised 1) e in
+      (ne-eqb kind (raised 2) (λ k. omega arith), ne-eqb kind (raised 3) (λ k. omega arith))
+
+  pub index-ok : indexNamesLine (linesAt ts) kind index ≡ true → IndexOk (sceneOf ts) (kindOf kind) (natural index)
+  unfolding indexNamesLine targetTable kindOf sceneOf
+  index-ok = go (eqb kind (raised 0)) (eqb kind (raised 1)) (eqb kind (raised 2)) (eqb kind (raised 3)) (eqb kind (raised 4)) one-kind
+    where
+      go : (a b c d f : Bool) → (b ≡ true → (c ≡ false) × (d ≡ false))
+          → cond a (eqb index (raised 0)) (leb (raised 1) index && leb (natural index) (linesAt ts (cond c sends (cond d routes tracks)))) ≡ true
+          → IndexOk (sceneOf ts) (cond a MainVolume (cond b TrackVolume (cond c SendVolume (cond d RouteVolume (cond f Pause Resume))))) (natural index)
+      go true b c d f k e = let h : index ≡ raised 0 = eqb-true index (raised 0) e in omega arith
+      go false true true d f k e = absurd (true≢false (k refl .0))
+      go false true false true f k e = absurd (true≢false (k refl .1))
+      go false true false false f k e = there tracks e
+      go false false true d f k e = there sends e
+      go false false false true f k e = there routes e
+      go false false false false true k e = there tracks e
+      go false false false false false k e = there tracks e
+
+-- ---- samples
+
+pub sample-within : (x : Float) → sampleOk x ≡ true → Within x 1 1
+unfolding sampleOk ofInt
+sample-within x e =
+    let most = ofInt binary32 (pos 1) in
+    let low = le (neg most) x in
+    let high = le x most in
+    within-of-tests most (holds-value false (holds-small binary32 1 (lit< tt))) (true-T low (and-left low high e)) (true-T high (and-right low high e))
+
+-- a frame is two samples
+pub two-each : (n samples : ℕ) → n ≤ samples / 2 → 2 * n ≤ samples
+two-each n samples h = omega arith

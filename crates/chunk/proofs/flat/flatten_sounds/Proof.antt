@@ -1,0 +1,106 @@
+use mathlib.Core.Path.{_≡_, refl, sym}
+use Prim.Native.Nat.{_+_, _-_, _≤_, zero-le}
+use native.Mathlib.Omega.{arith}
+use borrow.Author.Needs.{needs}
+use Rattle.chunk.specs.Flat.{placesOf}
+use Rattle.chunk.proofs.laws.Flat.{place-sound-track, place-sound-start, place-sound-left}
+use Rattle.chunk.specs.Written.{Written}
+use Rattle.chunk.proofs.laws.Written.{written-none, written-set, written-next, written-to, written-join}
+use Rattle.chunk.proofs.flat.flatten_sounds.Statement.{statement}
+use Rattle.chunk.specs.Chunk.{soundRow}
+use Rattle.chunk.proofs.flat.flatten_sounds.Tie as tie
+
+abbrev Inv-loop : tie.InvT-loop
+Inv-loop places₀ chunk k₀ places k = (k ≤ 64) × Written 0 (placesOf chunk) 192 k places₀ places × Written 0 (placesOf chunk) 256 k places₀ places × Written 0 (placesOf chunk) 320 k places₀ places
+
+abbrev μ-loop : tie.MeasureT-loop
+μ-loop places₀ chunk k₀ places k = 64 - k
+
+loop-holds : tie.Need-loop-holds Inv-loop μ-loop
+loop-holds c = (zero-le, written-none 192 _, written-none 256 _, written-none 320 _)
+
+mul-sound : tie.Need-mul-sound Inv-loop μ-loop
+mul-sound c = search needs
+
+element-copy-out-sound : tie.Need-element-copy-out-sound Inv-loop μ-loop
+element-copy-out-sound c = search needs
+
+add-places : tie.Need-add-places Inv-loop μ-loop
+add-places c = search needs
+
+mul-places : tie.Need-mul-places Inv-loop μ-loop
+mul-places c = search needs
+
+element-write-places : tie.Need-element-write-places Inv-loop μ-loop
+element-write-places c = search needs
+
+add-places-2 : tie.Need-add-places-2 Inv-loop μ-loop
+add-places-2 c = search needs
+
+mul-places-2 : tie.Need-mul-places-2 Inv-loop μ-loop
+mul-places-2 c = search needs
+
+element-write-places-2 : tie.Need-element-write-places-2 Inv-loop μ-loop
+element-write-places-2 c = search needs
+
+add-places-3 : tie.Need-add-places-3 Inv-loop μ-loop
+add-places-3 c = search needs
+
+mul-places-3 : tie.Need-mul-places-3 Inv-loop μ-loop
+mul-places-3 c = search needs
+
+element-write-places-3 : tie.Need-element-write-places-3 Inv-loop μ-loop
+element-write-places-3 c = search needs
+
+add-k : tie.Need-add-k Inv-loop μ-loop
+add-k c = search needs
+
+loop-less : tie.Need-loop-less Inv-loop μ-loop
+loop-less c = search needs
+
+loop-again : tie.Need-loop-again Inv-loop μ-loop
+loop-again c =
+    let l = c .before .before in
+    let start = c .before .before .before in
+    let chunk = start .args .t1 in
+    let k = l .loop .k in
+    let h = c .before .loop-test .taken in
+    let inv = l .loop .inv in
+    let sound = soundRow chunk k in
+    let track = sym (place-sound-track chunk k h) in
+    let begun = sym (place-sound-start chunk k h) in
+    let left = sym (place-sound-left chunk k h) in (
+      omega (arith, h),
+      written-set (320 + k) (sound .left) (written-set (256 + k) (sound .start) (written-next (192 + k) (sound .track) (inv .1) refl (omega (arith, start .pre, h)) track) begun) left,
+      written-set (320 + k) (sound .left) (written-next (256 + k) (sound .start) (written-set (192 + k) (sound .track) (inv .2) track) refl (omega (arith, start .pre, h)) begun) left,
+      written-next (320 + k) (sound .left) (written-set (256 + k) (sound .start) (written-set (192 + k) (sound .track) (inv .3) track) begun) refl (omega (arith, start .pre, h)) left,
+    )
+
+returns : tie.Need-returns Inv-loop μ-loop
+returns c =
+    let inv = c .before .loop .inv in
+    let end : c .before .loop .k ≡ 64 = omega (arith, c .loop-test .left, inv .0) in
+    written-join (written-join (written-to (inv .1) end) (written-to (inv .2) end) refl) (written-to (inv .3) end) refl
+
+pub flatten-sounds-spec : {M : Type 1} → statement M
+flatten-sounds-spec =
+    tie.close
+    (tie.spec
+    Inv-loop
+    μ-loop
+    loop-holds
+    mul-sound
+    element-copy-out-sound
+    add-places
+    mul-places
+    element-write-places
+    add-places-2
+    mul-places-2
+    element-write-places-2
+    add-places-3
+    mul-places-3
+    element-write-places-3
+    add-k
+    loop-less
+    loop-again
+    returns)

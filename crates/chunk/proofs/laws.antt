@@ -1,0 +1,4 @@
+pub mod Chunk
+pub mod Flat
+pub mod Flatten
+pub mod Written

@@ -1,0 +1,177 @@
+-- What mixing a chunk reads: the lines, and every level before the chunk and at its end.
+use mathlib.Core.Path.{_≡_, refl, sym, ap, ap₂, _∙_, subst}
+use mathlib.Core.Bool.{Bool, false, true, not, _&&_}
+use mathlib.Core.List.{List}
+use Prim.Native.Nat.{ℕ, _+_, _≤_, _<_, suc, _^_}
+use lib.IntN.{pos}
+use lib.ListN.{getD, length}
+use lib.Ieee.{Float, nan, binary32, binary64, div, eq, ofInt, prec, round, sub, le, isNan, inFloat}
+use mathlib.Core.Logic.{inl, inr}
+use native.Mathlib.Nat.{lt-of-le-of-lt, le-trans, le-of-eq, eq-zero-or-pos}
+use native.Mathlib.Numerals.{add-one}
+use native.Mathlib.Omega.{arith}
+use lib.Dec.{T, le→leb, lit<, lit≤}
+use lib.Ieee.Scale.{finite}
+use Rattle.decibels.specs.declared.decibels.Amplitude.{Amplitude}
+use Rattle.decibels.specs.Decibels.{amplitude, admitted, limit}
+use Rattle.laws.specs.Loop.{changed}
+use Rattle.laws.proofs.laws.Amount.{InUnit, place-amount}
+use Rattle.rounding.specs.Narrow.{narrowed}
+use Rattle.tween.specs.Tweenable.{interpolated}
+use Rattle.chunk.specs.declared.chunk.Level.{Level}
+use Rattle.laws.proofs.laws.Choice.{true-T}
+use Rattle.laws.proofs.laws.Loop.{changed-length, changed-below, changed-cong}
+use Rattle.laws.specs.Float.{one}
+use Rattle.laws.proofs.laws.Float.{zero-of}
+use Rattle.laws.specs.FloatOrder.{Number, magnitude, plus, minus}
+use Rattle.laws.proofs.laws.FloatOrder.{le→units, units→le, eq→units, number-unique, zero-is}
+use Rattle.laws.specs.Interpolate.{interpolate}
+use Rattle.laws.proofs.laws.Interpolate.{range-number, sub-in-range, never-above-start, never-below-start}
+use Rattle.laws.proofs.laws.DecibelRange.{ReadRange, twenty-four, value→read, read-number, value-read, read-most, read-not-nan, integer-pos}
+use Rattle.rounding.proofs.laws.Narrow.{narrowed-unit}
+use Rattle.decibels.proofs.laws.Decibels.{amplitude-unity}
+use Rattle.level_amplitudes.specs.Amplitudes.{valueAt, amplitudeAt, withAmplitudes}
+use Rattle.chunk.specs.Chunk.{amountAt, levelAmplitude, isSteady, steadyAmplitude, partAt, withFactors, IsParts, LevelInRange}
+
+-- ---- what mixing asks of a chunk
+
+-- an amount in 0..1
+abbrev pub IsAmount : Float → Type 0
+IsAmount x = InUnit binary64 x
+
+-- such an amount rounded to f32
+pub record IsPart (part : Float) : Type 0 where
+  pub amount : Float
+  pub lies : IsAmount amount
+  pub rounded : part ≡ narrowed amount
+
+-- a number of frames is a float
+pub frames-in-float : (n : ℕ) → n ≤ 256 → T (inFloat binary64 (pos n))
+unfolding inFloat
+frames-in-float n h = le→leb n (2 ^ prec binary64) (le-trans h (lit≤ tt))
+
+pub amount-is : (i n : ℕ) → i < n → n ≤ 256 → IsAmount (amountAt i n)
+unfolding amountAt
+amount-is i n h k =
+    subst (InUnit binary64)
+    (sym (ap₂ (div binary64) (ap (λ (j : ℕ). ofInt binary64 (pos j)) (add-one i) ∙ integer-pos binary64 (suc i)) (integer-pos binary64 n)))
+    (place-amount binary64 i n h (lt-of-le-of-lt k (lit< tt)))
+
+limit-is : twenty-four ≡ limit
+unfolding ofInt round
+limit-is = refl
+
+both : (a b : Bool) → T a → T b → T (a && b)
+both true true x y = tt
+both true false x y = absurd y
+both false b x y = absurd x
+
+admitted-read : (x : Float) → ReadRange x → T (admitted x)
+unfolding admitted
+admitted-read x r = both (not (isNan x)) (le x limit) (read-not-nan x r) (subst (λ (y : Float). T (le x y)) limit-is (read-most x r))
+
+pub now-admitted : (l : Level) → LevelInRange l → T (admitted (l .now .0))
+now-admitted l h = admitted-read (l .now .0) (value→read (l .now .0) (h .now))
+
+-- ---- parts
+
+part-unit : (part : Float) → IsPart part → InUnit binary32 part
+part-unit part p = subst (InUnit binary32) (sym (p .rounded)) (narrowed-unit binary64 (p .amount) (p .lies))
+
+pub part-admitted : (l : Level) (part : Float) → LevelInRange l → IsPart part → T (admitted (interpolate binary32 (l .before .0) (l .now .0) part))
+part-admitted l part h p = admitted-read (interpolate binary32 (l .before .0) (l .now .0) part) (value-read (l .before .0) (l .now .0) part (part-unit part p) (h .before) (h .now))
+
+pub level-admitted : (l : Level) (amount : Float) → LevelInRange l → IsAmount amount → T (admitted (interpolated (l .before) (l .now) amount .0))
+unfolding interpolated
+level-admitted l amount h k = part-admitted l (narrowed amount) h (record { amount = amount; lies = k; rounded = refl })
+
+-- what the loop that makes them gives
+pub parts-are : (n : ℕ) (l : List Float) {parts : List Float} → n ≤ 256 → length l ≡ 256 → parts ≡ changed (λ k x. partAt k n) n l → IsParts n parts
+parts-are n l h w e = record {
+  long = ap length e ∙ changed-length (λ k x. partAt k n) n l ∙ w;
+  part = λ i p. ap (λ (r : List Float). getD r i nan) e ∙ changed-below (λ k x. partAt k n) n l i nan p (omega arith);
+}
+
+-- frame i of a chunk
+module _ (n i : ℕ) (parts : List Float) (P : IsParts n parts) (h : i < n) where
+  pub parts-is : n ≤ 256 → IsPart (getD parts i nan)
+  unfolding partAt
+  parts-is k = record { amount = amountAt i n; lies = amount-is i n h k; rounded = P .part i h }
+
+  pub parts-admitted : (l : Level) → n ≤ 256 → LevelInRange l → T (admitted (valueAt (l .before) (l .now) parts i))
+  unfolding valueAt
+  parts-admitted l k r = part-admitted l (getD parts i nan) r (parts-is k)
+
+  -- the amplitude at its part is the one at its amount
+  parts-amplitude : (l : Level) (x : Float) → amplitudeAt (l .before) (l .now) parts i x ≡ levelAmplitude l (amountAt i n) .0
+  unfolding amplitudeAt valueAt levelAmplitude interpolated partAt
+  parts-amplitude l x = ap (λ (part : Float). amplitude (interpolate binary32 (l .before .0) (l .now .0) part)) (P .part i h)
+
+pub factors-are : (l : Level) (n : ℕ) (parts factors : List Float) → IsParts n parts → withAmplitudes (l .before) (l .now) parts n factors ≡ withFactors l n factors
+factors-are l n parts factors P =
+    changed-cong (amplitudeAt (l .before) (l .now) parts) (λ i x. levelAmplitude l (amountAt i n) .0) n factors nan (λ k h _. parts-amplitude n k parts P h l (getD factors k nan))
+
+-- the factor of frame i
+pub factor-at : (l : Level) (n i : ℕ) (before : List Float) {factors : List Float} → i < n → n ≤ length before → factors ≡ withFactors l n before → getD factors i nan ≡ levelAmplitude l (amountAt i n) .0
+factor-at l n i before h w e =
+    ap (λ (r : List Float). getD r i nan) e ∙ changed-below (λ i x. levelAmplitude l (amountAt i n) .0) n before i nan h (omega arith)
+
+-- ---- a level that stands still
+
+-- a zero of either sign
+zero-unity : (x : Float) → Number binary32 x → magnitude binary32 x ≡ 0 → amplitude x ≡ one
+zero-unity x X z = elim (zero-is binary32 x X z) [ inl p ↦ ap amplitude p ∙ amplitude-unity (zero-of false) | inr p ↦ ap amplitude p ∙ amplitude-unity (zero-of true) ]
+
+-- equal numbers have one amplitude
+equal-amplitude : (x y : Float) → Number binary32 x → Number binary32 y → plus binary32 x + minus binary32 y ≡ plus binary32 y + minus binary32 x → amplitude x ≡ amplitude y
+equal-amplitude x y X Y e = elim (eq-zero-or-pos (magnitude binary32 y)) [
+  | inr p ↦ ap amplitude (number-unique binary32 x y X Y e p)
+  | inl z ↦ elim (eq-zero-or-pos (magnitude binary32 x)) [
+    | inr p ↦ sym (ap amplitude (number-unique binary32 y x Y X (sym e) p))
+    | inl w ↦ zero-unity x X w ∙ sym (zero-unity y Y z)
+  ]
+]
+
+-- what is read between two equal values is equal to them
+module _ (l : Level) (t : Float) (s : isSteady l ≡ true) (h : LevelInRange l) (U : InUnit binary32 t) where
+  abbrev a : Float
+  a = l .before .0
+
+  abbrev b : Float
+  b = l .now .0
+
+  abbrev read : Float
+  read = interpolate binary32 a b t
+
+  a-number : Number binary32 a
+  a-number = read-number a (value→read a (h .before))
+
+  b-number : Number binary32 b
+  b-number = read-number b (value→read b (h .now))
+
+  read-is : Number binary32 read
+  read-is = read-number read (value-read a b t U (h .before) (h .now))
+
+  same : plus binary32 a + minus binary32 b ≡ plus binary32 b + minus binary32 a
+  unfolding isSteady
+  same = eq→units binary32 a b a-number b-number (true-T (eq a b) s)
+
+  equal : plus binary32 read + minus binary32 b ≡ plus binary32 b + minus binary32 read
+  equal =
+      let D : T (finite (sub binary32 b a)) = range-number binary32 116 116 (sub binary32 b a) (lit< tt) (lit< tt) (sub-in-range binary32 97 19 a b (lit< tt) (h .before) (h .now)) .is-finite in
+      through (plus binary32 a) (minus binary32 a) (plus binary32 b) (minus binary32 b) (plus binary32 read) (minus binary32 read) same
+      (le→units binary32 read a read-is a-number (never-above-start binary32 a b a-number b-number D t U (units→le binary32 b a b-number a-number (le-of-eq (sym same)))))
+      (le→units binary32 a read a-number read-is (never-below-start binary32 a b a-number b-number D t U (units→le binary32 a b a-number b-number (le-of-eq same))))
+    where
+      through : (pa ma pb mb px mx : ℕ) → pa + mb ≡ pb + ma → px + ma ≤ pa + mx → pa + mx ≤ px + ma → px + mb ≡ pb + mx
+      through pa ma pb mb px mx e u v = omega arith
+
+  steady-by : amplitude read ≡ amplitude b
+  steady-by = equal-amplitude read b read-is b-number equal
+
+made : Float → Amplitude
+made x = record { 0 = x }
+
+pub steady : (l : Level) (amount : Float) → isSteady l ≡ true → LevelInRange l → IsAmount amount → levelAmplitude l amount ≡ steadyAmplitude l
+unfolding levelAmplitude steadyAmplitude interpolated made
+steady l amount s h A = ap made (steady-by l (narrowed amount) s h (narrowed-unit binary64 amount A))

@@ -1,0 +1,3 @@
+pub mod Chunk
+pub mod Flat
+pub mod Written

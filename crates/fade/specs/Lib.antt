@@ -1,2 +1,0 @@
-pub mod Amplitudes
-pub mod AmplitudesLaws

@@ -1,0 +1,3 @@
+pub mod Frame
+pub mod Picks
+pub mod Turn

@@ -1,0 +1,16 @@
+pub mod Loop
+pub mod Count
+pub mod Kept
+pub mod Pieces
+pub mod Table
+pub mod Choice
+pub mod Float
+pub mod FloatValue
+pub mod FloatZero
+pub mod FloatBounds
+pub mod FloatOrder
+pub mod FloatRound
+pub mod FloatLiteral
+pub mod Amount
+pub mod Interpolate
+pub mod DecibelRange

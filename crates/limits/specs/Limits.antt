@@ -1,0 +1,32 @@
+-- How many lines, tracks and frames there can be. A scene's tables have at most so many lines:
+use Prim.Native.Nat.{ℕ}
+
+abbrev pub clockLines : ℕ
+clockLines = 8
+
+abbrev pub trackLines : ℕ
+trackLines = 32
+
+abbrev pub sendLines : ℕ
+sendLines = 8
+
+abbrev pub routeLines : ℕ
+routeLines = 64
+
+abbrev pub soundLines : ℕ
+soundLines = 64
+
+abbrev pub orderLines : ℕ
+orderLines = 128
+
+-- tracks that a mixer has room for at once
+abbrev pub trackPlaces : ℕ
+trackPlaces = 32
+
+-- how deep tracks can stand below the mixer
+abbrev pub trackDepth : ℕ
+trackDepth = 4
+
+-- frames of a chunk
+abbrev pub chunkFramesMost : ℕ
+chunkFramesMost = 256

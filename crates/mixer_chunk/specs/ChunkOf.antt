@@ -1,0 +1,81 @@
+-- What mixing reads of a mixer that has moved: the chunk of `track`.
+use mathlib.Core.Bool.{false}
+use mathlib.Core.List.{List}
+use Prim.Native.Nat.{ℕ, _+_, _-_}
+use lib.IntN.{pos}
+use lib.ListN.{getD, replicate}
+use lib.Ieee.{binary32, ofInt}
+use Rattle.laws.specs.Loop.{changed}
+use Rattle.decibels.specs.Decibels.{amplitude}
+use Rattle.parameter.specs.declared.parameter.Parameter.{Parameter}
+use Rattle.scene.specs.declared.scene.Scene.{Scene}
+use Rattle.scene.specs.declared.scene.TrackLine.{TrackLine}
+use Rattle.scene.specs.declared.scene.RouteLine.{RouteLine}
+use Rattle.scene.specs.declared.scene.SoundLine.{SoundLine}
+use Rattle.chunk.specs.declared.chunk.Level.{Level}
+use Rattle.chunk.specs.declared.chunk.ChunkTrack.{ChunkTrack}
+use Rattle.chunk.specs.declared.chunk.ChunkRoute.{ChunkRoute}
+use Rattle.chunk.specs.declared.chunk.ChunkSound.{ChunkSound}
+use Rattle.chunk.specs.declared.chunk.Chunk.{Chunk}
+use Rattle.mixer.specs.declared.sub.Track.{Track}
+use Rattle.mixer.specs.declared.mixer.Mixer.{Mixer}
+use Rattle.mixer.specs.Mixer.{stateOf, parameterOf, zeroDecibels}
+use Rattle.accepted.specs.Lines.{absentTrackLine, absentRouteLine, absentSoundLine}
+
+-- a parameter before the chunk and at its end
+unfoldable pub levelOf : Parameter → Level
+levelOf p = record { before = p .«previous_raw_value»; now = p .«raw_value» }
+
+unfoldable pub chunkTrack : TrackLine → Track → ChunkTrack
+chunkTrack line t = record { parent = line .parent; advancing = t .live; volume = levelOf (t .volume); fade = levelOf (t .playback .«volume_fade») }
+
+-- a route by its value at the chunk's end
+unfoldable pub chunkRoute : RouteLine → Parameter → ChunkRoute
+chunkRoute line p = record { track = line .track; send = line .send; amplitude = record { 0 = amplitude (p .«raw_value» .0) } }
+
+-- what a sound has left to play
+unfoldable pub chunkSound : SoundLine → ℕ → ChunkSound
+chunkSound line done = record { track = line .track; start = line .first + done; left = line .count - done }
+
+-- ---- places with no line
+
+unfoldable pub emptyLevel : Level
+emptyLevel = record { before = zeroDecibels; now = zeroDecibels }
+
+unfoldable pub emptyTrackRow : ChunkTrack
+emptyTrackRow = record { parent = 0; advancing = false; volume = emptyLevel; fade = emptyLevel }
+
+unfoldable pub emptyRouteRow : ChunkRoute
+emptyRouteRow = record { track = 0; send = 0; amplitude = record { 0 = ofInt binary32 (pos 0) } }
+
+unfoldable pub emptySoundRow : ChunkSound
+emptySoundRow = record { track = 0; start = 0; left = 0 }
+
+-- ---- the chunk
+
+unfoldable pub chunkTracks : List TrackLine → ℕ → List Track → List ChunkTrack
+chunkTracks lines count tracks = changed (λ t x. chunkTrack (getD lines t absentTrackLine) (stateOf tracks t)) count (replicate 32 emptyTrackRow)
+
+unfoldable pub chunkSends : ℕ → List Parameter → List Level
+chunkSends count sends = changed (λ i x. levelOf (parameterOf sends i)) count (replicate 8 emptyLevel)
+
+unfoldable pub chunkRoutes : List RouteLine → ℕ → List Parameter → List ChunkRoute
+chunkRoutes lines count routes = changed (λ r x. chunkRoute (getD lines r absentRouteLine) (parameterOf routes r)) count (replicate 64 emptyRouteRow)
+
+unfoldable pub chunkSounds : List SoundLine → ℕ → List ℕ → List ChunkSound
+chunkSounds lines count played = changed (λ k x. chunkSound (getD lines k absentSoundLine) (getD played k 0)) count (replicate 64 emptySoundRow)
+
+unfoldable pub chunkOf : Scene → ℕ → Mixer → Chunk
+chunkOf s n m =
+    record {
+      frames = n;
+      «track_count» = s .«track_count»;
+      tracks = chunkTracks (s .tracks) (s .«track_count») (m .tracks);
+      «send_count» = s .«send_count»;
+      sends = chunkSends (s .«send_count») (m .sends);
+      «route_count» = s .«route_count»;
+      routes = chunkRoutes (s .routes) (s .«route_count») (m .routes);
+      «sound_count» = s .«sound_count»;
+      sounds = chunkSounds (s .sounds) (s .«sound_count») (m .played);
+      main = levelOf (m .«main_volume»);
+    }

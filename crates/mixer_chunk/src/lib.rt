@@ -1,0 +1,4 @@
+// What mixing reads of a mixer that has moved.
+mod tables;
+
+pub use tables::chunk_of;

@@ -1,0 +1,6 @@
+pub mod Arrays
+pub mod States
+pub mod Made
+pub mod Ordered
+pub mod Moved
+pub mod Mixes

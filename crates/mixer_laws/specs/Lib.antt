@@ -1,7 +1,0 @@
-pub mod Arrays
-pub mod States
-pub mod Made
-pub mod Ordered
-pub mod Moved
-pub mod Mixes
-pub mod MixerLaws

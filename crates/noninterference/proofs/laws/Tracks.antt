@@ -1,0 +1,105 @@
+-- A track that is kept has the same frames, or zeros where it is chosen. Assumes nothing.
+use mathlib.Core.Path.{_≡_, refl, sym, ap, _∙_, subst}
+use mathlib.Core.Logic.{inl, inr}
+use mathlib.Core.Bool.{Bool, false}
+use mathlib.Core.List.{List}
+use Prim.Native.Nat.{ℕ, zero, suc, _≤_, _<_}
+use native.Mathlib.Omega.{arith}
+use lib.Dec.{T}
+use lib.Ieee.{Float, binary32}
+use lib.Ieee.Scale.{finite}
+use Rattle.laws.proofs.laws.Choice.{cond-false}
+use Rattle.laws.specs.Kept.{rank}
+use Rattle.laws.proofs.laws.Kept.{kept-or-removed}
+use Rattle.laws.proofs.laws.Float.{Zero}
+use Rattle.laws.proofs.laws.FloatZero.{mul-zero-left, mul-zero-right}
+use Rattle.frame.specs.declared.frame.Frame.{Frame}
+use Rattle.chunk.specs.declared.chunk.Chunk.{Chunk}
+use Rattle.chunk.specs.declared.chunk.ChunkTrack.{ChunkTrack}
+use Rattle.frame.specs.Frame.{zeroFrame, added, scaled}
+use Rattle.chunk.specs.Chunk.{amountAt, levelAmplitude, trackAmplitude, trackRow, soundRow}
+use Rattle.chunk.proofs.laws.Chunk.{amount-is}
+use Rattle.track.specs.Sound.{soundFrame, withSounds}
+use Rattle.track.specs.Sub.{overSubTracks, trackFrame}
+use Rattle.noninterference.specs.Removed.{newLine}
+use Rattle.noninterference.proofs.laws.Lines.{openLine, open-suc}
+use Rattle.noninterference.proofs.laws.Chunk.{Without}
+use Rattle.frame.specs.Running.{Both}
+use Rattle.track.proofs.laws.Running.{both-zero, zeros, track-fits}
+use Rattle.noninterference.proofs.laws.Frames.{Finite, both-scaled, Alike, same-start, same-added, at-equal}
+use Rattle.noninterference.proofs.laws.Parts.{trackSum, trackWith, track-parts, track-holds}
+use Rattle.noninterference.proofs.laws.Bounds.{Size, level-within, sum-finite}
+use Rattle.noninterference.proofs.laws.Sounds.{sounds-same, sounds-none}
+use Rattle.noninterference.proofs.laws.Below.{below-same, below-none}
+
+-- ---- a silent track: whatever finite sum it has inside, its frame is zeros
+
+silent-amplitude : (track : ChunkTrack) (amount : Float) → Zero (levelAmplitude (track .volume) amount .0) → T (finite (levelAmplitude (track .fade) amount .0)) → Zero (trackAmplitude track amount .0)
+unfolding trackAmplitude
+silent-amplitude track amount z h = mul-zero-left binary32 (levelAmplitude (track .fade) amount .0) z h
+
+stopped-frame : (track : ChunkTrack) (n i : ℕ) (sum : Frame) → track .advancing ≡ false → Both Zero (trackWith track n i sum)
+unfolding trackWith
+stopped-frame track n i sum e = subst (Both Zero) (sym (cond-false (track .advancing) (scaled sum (trackAmplitude track (amountAt i n))) zeroFrame e)) zeros
+
+muted-frame : (track : ChunkTrack) (n i : ℕ) (sum : Frame) → Zero (trackAmplitude track (amountAt i n) .0) → Both Finite sum → Both Zero (trackWith track n i sum)
+muted-frame track n i sum z h =
+    track-holds (Both Zero) track n i sum (both-scaled Zero (trackAmplitude track (amountAt i n)) (λ x f. mul-zero-right binary32 x f z) h) zeros
+
+module _ {keep chosen quiet : ℕ → Bool} {c : Chunk} {samples : List Float} {c' : Chunk} {samples' : List Float} (w : Without keep chosen quiet c samples c' samples') (i : ℕ) (inside : i < c .frames) where
+  silent-frame : (p : ℕ) → p < c .«track_count» → T (chosen p) → (sum : Frame) → Both Finite sum → Both Zero (trackWith (trackRow c p) (c .frames) i sum)
+  silent-frame p l t sum h =
+      elim (w .chosen-silent p l t) [
+        | inl e ↦ stopped-frame (trackRow c p) (c .frames) i sum e
+        | inr m ↦ muted-frame (trackRow c p) (c .frames) i sum
+            (silent-amplitude (trackRow c p) (amountAt i (c .frames)) (m .silent i inside)
+            (level-within (trackRow c p .fade) (amountAt i (c .frames)) (w .in-range .fades p l) (amount-is i (c .frames) inside (w .in-range .short)) .is-finite))
+            h
+      ]
+
+  -- ---- the sums inside a track
+
+  heard : (k : ℕ) → k < c .«sound_count» → Both (Size 1) (soundFrame samples (soundRow c k) i)
+  heard k l = record { left = w .sound-values k l i inside .0; right = w .sound-values k l i inside .1 }
+
+  sum-none : (d p : ℕ) → T (keep p) → T (chosen p) → trackSum d c' samples' (newLine keep (suc p)) i ≡ zeroFrame
+  unfolding trackSum
+  sum-none d p s t =
+      ap (withSounds c' samples' (newLine keep (suc p)) i) (below-none w p s t (λ below x. added x (trackFrame d c' samples' below i)) zeroFrame)
+      ∙ sounds-none w i p s t zeroFrame
+
+  -- what track j has with d levels of tracks
+  abbrev TrackAlike : ℕ → ℕ → Type 0
+  TrackAlike d j = Alike (trackFrame d c samples (suc j) i) (trackFrame d c' samples' (suc (rank keep j)) i)
+
+  pub below-sum : (d : ℕ) → ((j : ℕ) → j < c .«track_count» → T (keep j) → TrackAlike d j) → (line : ℕ) → T (openLine keep chosen line)
+      → overSubTracks c line (λ below x. added x (trackFrame d c samples below i)) zeroFrame ≡ overSubTracks c' (newLine keep line) (λ below x. added x (trackFrame d c' samples' below i)) zeroFrame
+  below-sum d h line t =
+      below-same w line t (λ below x. added x (trackFrame d c samples below i)) (λ below x. added x (trackFrame d c' samples' below i))
+      (λ j l s x y r. same-added r (track-fits d c samples (suc j) i) (h j l s)) zeroFrame zeroFrame same-start .same
+
+  sum-same : (d : ℕ) → ((j : ℕ) → j < c .«track_count» → T (keep j) → TrackAlike d j) → (line : ℕ) → T (openLine keep chosen line) → trackSum d c samples line i ≡ trackSum d c' samples' (newLine keep line) i
+  unfolding trackSum
+  sum-same d h line t =
+      sounds-same w i inside line t (overSubTracks c line (λ below x. added x (trackFrame d c samples below i)) zeroFrame) ∙ ap (withSounds c' samples' (newLine keep line) i) (below-sum d h line t)
+
+  -- ---- a track
+
+  kept-parts : (d j : ℕ) → j < c .«track_count» → T (keep j) → trackFrame (suc d) c' samples' (suc (rank keep j)) i ≡ trackWith (trackRow c j) (c .frames) i (trackSum d c' samples' (newLine keep (suc j)) i)
+  unfolding newLine trackWith trackAmplitude
+  kept-parts d j l t =
+      track-parts d c' samples' (rank keep j) i
+      ∙ ap (λ (r : ChunkTrack). trackWith r (c' .frames) i (trackSum d c' samples' (suc (rank keep j)) i)) (w .kept-tracks j l t)
+      ∙ ap (λ (n : ℕ). trackWith (trackRow c j) n i (trackSum d c' samples' (suc (rank keep j)) i)) (w .same-frames)
+
+  pub track-alike : (d : ℕ) → d ≤ 4 → (j : ℕ) → j < c .«track_count» → T (keep j) → TrackAlike d j
+  track-alike zero h j l s = unfold trackFrame in inl refl
+  track-alike (suc d) h j l s =
+      at-equal Alike (track-parts d c samples j i) (kept-parts d j l s)
+      (elim (kept-or-removed (chosen j)) [
+        | inl t ↦ inr (
+          silent-frame j l t (trackSum d c samples (suc j) i) (sum-finite c samples (w .in-range) i inside heard d h (suc j)),
+          silent-frame j l t (trackSum d c' samples' (newLine keep (suc j)) i) (subst (Both Finite) (sym (sum-none d j s t)) (both-zero Finite tt)),
+        )
+        | inr t ↦ inl (ap (trackWith (trackRow c j) (c .frames) i) (sum-same d (track-alike d (omega arith)) (suc j) (open-suc keep chosen j s t)))
+      ])

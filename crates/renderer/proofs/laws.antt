@@ -1,0 +1,3 @@
+pub mod Renderer
+pub mod Channels
+pub mod Lengths

@@ -1,0 +1,4 @@
+pub mod Render
+pub mod Run
+pub mod Silence
+pub mod Blocks

@@ -1,0 +1,11 @@
+pub mod Nearest
+pub mod Rounding
+pub mod Fields
+pub mod Narrow
+pub mod NarrowBits
+pub mod Normal
+pub mod NarrowNearest
+pub mod RoundedNearest
+pub mod NarrowNearestUnique
+pub mod Duration
+pub mod Controls

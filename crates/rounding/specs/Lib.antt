@@ -1,0 +1,4 @@
+pub mod Nearest
+pub mod Narrow
+pub mod NarrowNearest
+pub mod Duration

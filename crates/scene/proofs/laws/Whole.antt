@@ -1,0 +1,230 @@
+-- Laws of all tables in their places: the questions asked of the places are those asked of the tables, and the scene read from the
+-- places is the tables'.
+use mathlib.Core.Path.{_≡_, refl, sym, _∙_, ap, fun-ext}
+use mathlib.Core.Bool.{Bool, true, false, cond, _&&_}
+use mathlib.Core.List.{List, [], _∷_}
+use Prim.Native.Nat.{ℕ, zero, suc, _+_, _*_, _<_, _≤_}
+use native.Mathlib.Nat.{add-zero, zero-add, zero-mul}
+use native.Mathlib.Omega.{arith}
+use borrow.Author.Tests.{leb-true, ltb-true, ltb-false}
+use lib.Dec.{leb, ltb}
+use lib.ListN.{length, getD, take, drop, replicate, take-append-drop, List·getD-append, List·getD-eq-default}
+use lib.Seq.{getD-append-add, drop-cons, getD-take}
+use Rattle.scene_tables.specs.declared.tables.Field.{Field}
+use Rattle.scene_tables.specs.declared.tables.LineRule.{LineRule}
+use Rattle.scene_tables.specs.declared.tables.LineRule.the-variants.{Plain, Speed, Order}
+use Rattle.scene.specs.declared.scene.Head.{Head}
+use Rattle.scene.specs.declared.scene.ClockLine.{ClockLine}
+use Rattle.scene.specs.declared.scene.TrackLine.{TrackLine}
+use Rattle.scene.specs.declared.scene.SendLine.{SendLine}
+use Rattle.scene.specs.declared.scene.RouteLine.{RouteLine}
+use Rattle.scene.specs.declared.scene.SoundLine.{SoundLine}
+use Rattle.scene.specs.declared.scene.OrderLine.{OrderLine}
+use Rattle.scene.specs.declared.scene.Scene.{Scene}
+use Rattle.scene_tables.specs.Bytes.{every, all}
+use Rattle.scene_tables.specs.Tables.{Table, tables, noTable, noField, width}
+use Rattle.scene_tables.specs.InCode.{allFields}
+use Rattle.scene_questions.specs.Questions.{Tables, rowsAt, linesAt, cell, field, blocks, linesOk, everyLine, inRange, namesLine, lineInRange, lineNamesLine, rangesOk, referencesOk, orderFits}
+use Rattle.scene_questions.specs.Places.{rowsIn, placedFrom, countAt, countsFit, fieldPasses, linePasses, fieldsPass, tablePasses, tablesPass, Low, stored}
+use Rattle.scene.specs.Scene.{headOf, clockOf, trackOf, sendOf, routeOf, soundOf, orderOf, filled, sceneOf, emptyClockLine, emptyTrackLine, emptySendLine, emptyRouteLine, emptySoundLine, emptyOrderLine, emptyHead, emptyScene}
+use Rattle.scene_questions.proofs.laws.Loops.{and-left, and-right, and-same, all-at, every-at, every-same}
+use Rattle.scene_questions.proofs.laws.Places.{rows-length, row-at, cell-at}
+use Rattle.scene_rules.proofs.laws.Passes.{fields-join}
+
+abbrev tableAt : ℕ → Table
+tableAt t = getD tables t noTable
+
+-- ---- lines of a table
+
+module _ (starts counts v : List ℕ) where
+  placed-from : (ts : List Table) (k t : ℕ) → t < length ts
+      → getD (placedFrom ts k starts counts v) t [] ≡ rowsIn v (getD starts (k + t) 0) (width (getD ts t noTable)) (getD counts (k + t) 0)
+  unfolding placedFrom
+  placed-from [] k t h = absurd (omega arith)
+  placed-from (x ∷ ts) k zero h = rw (add-zero k)
+  placed-from (x ∷ ts) k (suc t) h =
+      let e : suc k + t ≡ k + suc t = omega arith in
+      rw (← e) (placed-from ts (suc k) t (omega arith))
+
+  placed-length : (ts : List Table) (k : ℕ) → length (placedFrom ts k starts counts v) ≡ length ts
+  unfolding placedFrom
+  placed-length [] k = refl
+  placed-length (x ∷ ts) k = ap suc (placed-length ts (suc k))
+
+  pub rows-placed : (t : ℕ) → t < length tables → rowsAt (stored starts counts v) t ≡ rowsIn v (getD starts t 0) (width (tableAt t)) (getD counts t 0)
+  unfolding stored
+  rows-placed t h = placed-from tables 0 t h ∙ rw (zero-add t)
+
+  pub lines-placed : (t : ℕ) → t < length tables → linesAt (stored starts counts v) t ≡ getD counts t 0
+  lines-placed t h = ap length (rows-placed t h) ∙ rows-length v (getD starts t 0) (width (tableAt t)) (getD counts t 0)
+
+  pub lines-all : (t : ℕ) → linesAt (stored starts counts v) t ≡ countAt counts t
+  unfolding countAt stored
+  lines-all t = go (ltb t (length tables)) refl
+    where
+      go : (b : Bool) → ltb t (length tables) ≡ b → linesAt (stored starts counts v) t ≡ cond b (getD counts t 0) 0
+      go true h = lines-placed t (ltb-true t (length tables) h)
+      go false h =
+          let k : length tables ≤ t = ltb-false t (length tables) h in
+          ap length (List·getD-eq-default (placedFrom tables 0 starts counts v) [] {n = t} (omega (arith, placed-length tables 0)))
+
+  pub lines-are : linesAt (stored starts counts v) ≡ countAt counts
+  lines-are = fun-ext lines-all
+
+  -- ---- question 3
+
+  pub counts-are : linesOk (stored starts counts v) ≡ countsFit counts
+  unfolding linesOk countsFit
+  counts-are =
+      every-same (length tables) (λ t. leb (tableAt t .least) (linesAt (stored starts counts v) t) && leb (linesAt (stored starts counts v) t) (tableAt t .most))
+      (λ t. leb (tableAt t .least) (getD counts t 0) && leb (getD counts t 0) (tableAt t .most))
+      (λ t h. rw (lines-placed t h))
+
+-- ---- questions 4 and 5
+
+-- how many fields the rule of a line looks at
+needed : LineRule → ℕ
+needed Plain = 0
+needed Speed = 2
+needed Order = 10
+
+field-cut : (w : ℕ) (l : List ℕ) (j : ℕ) → j < w → field (take w l) j ≡ field l j
+field-cut w l j h = getD-take w l j 0 h
+
+line-cut : (references : Bool) (lines : ℕ → ℕ) (blocks : ℕ) (rule : LineRule) (w : ℕ) (l : List ℕ) → needed rule ≤ w
+    → linePasses references lines blocks rule (take w l) ≡ linePasses references lines blocks rule l
+unfolding linePasses lineNamesLine lineInRange needed orderFits
+line-cut true lines blocks Plain w l h = refl
+line-cut true lines blocks Speed w l h = refl
+line-cut true lines blocks Order w l h = rw (field-cut w l 1 (omega arith), field-cut w l 2 (omega arith))
+line-cut false lines blocks Plain w l h = refl
+line-cut false lines blocks Speed w l h = rw (field-cut w l 0 (omega arith), field-cut w l 1 (omega arith))
+line-cut false lines blocks Order w l h =
+    rw (field-cut w l 0 (omega arith), field-cut w l 1 (omega arith), field-cut w l 3 (omega arith), field-cut w l 4 (omega arith), field-cut w l 5 (omega arith), field-cut w l 6 (omega arith), field-cut w l 7 (omega arith), field-cut w l 8 (omega arith), field-cut w l 9 (omega arith))
+
+-- every table has that many
+wide : Table → Bool
+wide t = leb (needed (t .rule)) (width t)
+
+all-wide : all wide tables ≡ true
+unfolding all wide needed width
+all-wide = refl
+
+rule-wide : (t : ℕ) → t < length tables → needed (tableAt t .rule) ≤ width (tableAt t)
+unfolding wide
+rule-wide t h = leb-true (needed (tableAt t .rule)) (width (tableAt t)) (all-at wide tables t noTable h all-wide)
+
+-- a field's rule, by its place among all fields
+field-of : (ts : List Table) (t j : ℕ) → t < length ts → j < width (getD ts t noTable)
+    → getD (allFields ts) (length (allFields (take t ts)) + j) noField ≡ getD (getD ts t noTable .fields) j noField
+unfolding allFields width
+field-of ts t j h k =
+    ap (λ (l : List Field). getD l (length (allFields (take t ts)) + j) noField)
+    (sym (ap allFields (take-append-drop t ts)) ∙ fields-join (take t ts) (drop t ts))
+    ∙ getD-append-add (allFields (take t ts)) (allFields (drop t ts)) j noField
+    ∙ ap (λ (l : List Table). getD (allFields l) j noField) (drop-cons ts t noTable h)
+    ∙ List·getD-append (getD ts t noTable .fields) (allFields (drop (suc t) ts)) noField j k
+
+module _ (references : Bool) (lines : ℕ → ℕ) (blocks : ℕ) (v : List ℕ) where
+  table-same : (T : Table) (first s n : ℕ) → ((j : ℕ) → j < width T → getD (allFields tables) (first + j) noField ≡ getD (T .fields) j noField) → needed (T .rule) ≤ width T
+      → every (length (rowsIn v s (width T) n))
+      (λ i. every (width T) (λ j. fieldPasses references lines (getD (T .fields) j noField) i (cell (rowsIn v s (width T) n) i j))
+      && linePasses references lines blocks (T .rule) (getD (rowsIn v s (width T) n) i []))
+      ≡ tablePasses references lines blocks (T .rule) first (width T) v s n
+  unfolding tablePasses fieldsPass
+  table-same T first s n same enough =
+      ap (λ (m : ℕ). every m (λ i. every (width T) (λ j. fieldPasses references lines (getD (T .fields) j noField) i (cell (rowsIn v s (width T) n) i j))
+      && linePasses references lines blocks (T .rule) (getD (rowsIn v s (width T) n) i []))) (rows-length v s (width T) n)
+      ∙ every-same n
+      (λ i. every (width T) (λ j. fieldPasses references lines (getD (T .fields) j noField) i (cell (rowsIn v s (width T) n) i j))
+      && linePasses references lines blocks (T .rule) (getD (rowsIn v s (width T) n) i []))
+      (λ i. every (width T) (λ j. fieldPasses references lines (getD (allFields tables) (first + j) noField) i (getD v (s + i * width T + j) 0))
+      && linePasses references lines blocks (T .rule) (drop (s + i * width T) v))
+      (λ i h. and-same
+      (every-same (width T) (λ j. fieldPasses references lines (getD (T .fields) j noField) i (cell (rowsIn v s (width T) n) i j))
+      (λ j. fieldPasses references lines (getD (allFields tables) (first + j) noField) i (getD v (s + i * width T + j) 0))
+      (λ j k. ap (λ (z : ℕ). fieldPasses references lines (getD (T .fields) j noField) i z) (cell-at v s (width T) n i j h k)
+      ∙ ap (λ (f : Field). fieldPasses references lines f i (getD v (s + i * width T + j) 0)) (sym (same j k))))
+      (ap (linePasses references lines blocks (T .rule)) (row-at v s (width T) n i h)
+      ∙ line-cut references lines blocks (T .rule) (width T) (drop (s + i * width T) v) enough))
+
+  pub passes-are : (starts counts : List ℕ) → everyLine (fieldPasses references lines) (linePasses references lines blocks) (stored starts counts v)
+      ≡ tablesPass references lines blocks starts counts v
+  unfolding everyLine tablesPass
+  passes-are starts counts =
+      every-same (length tables)
+      (λ t. every (linesAt (stored starts counts v) t)
+      (λ i. every (width (tableAt t)) (λ j. fieldPasses references lines (getD (tableAt t .fields) j noField) i (cell (rowsAt (stored starts counts v) t) i j))
+      && linePasses references lines blocks (tableAt t .rule) (getD (rowsAt (stored starts counts v) t) i [])))
+      (λ t. tablePasses references lines blocks (tableAt t .rule) (length (allFields (take t tables))) (width (tableAt t)) v (getD starts t 0) (getD counts t 0))
+      (λ t h. ap (λ (R : List (List ℕ)). every (length R)
+      (λ i. every (width (tableAt t)) (λ j. fieldPasses references lines (getD (tableAt t .fields) j noField) i (cell R i j))
+      && linePasses references lines blocks (tableAt t .rule) (getD R i []))) (rows-placed starts counts v t h)
+      ∙ table-same (tableAt t) (length (allFields (take t tables))) (getD starts t 0) (getD counts t 0) (λ j k. field-of tables t j h k) (rule-wide t h))
+
+by-4 : (lines : ℕ → ℕ) (b : ℕ) (ts : Tables) → everyLine (λ f own z. inRange f z) (lineInRange b) ts ≡ everyLine (fieldPasses false lines) (linePasses false lines b) ts
+unfolding fieldPasses linePasses
+by-4 lines b ts = refl
+
+by-5 : (lines : ℕ → ℕ) (b : ℕ) (ts : Tables) → everyLine (namesLine lines) (lineNamesLine lines) ts ≡ everyLine (fieldPasses true lines) (linePasses true lines b) ts
+unfolding fieldPasses linePasses
+by-5 lines b ts = refl
+
+module _ (starts counts v : List ℕ) where
+  pub ranges-are : (lines : ℕ → ℕ) → rangesOk (stored starts counts v) ≡ tablesPass false lines (blocks (stored starts counts v)) starts counts v
+  unfolding rangesOk
+  ranges-are lines =
+      by-4 lines (blocks (stored starts counts v)) (stored starts counts v)
+      ∙ passes-are false lines (blocks (stored starts counts v)) v starts counts
+
+  pub references-are : (b : ℕ) → referencesOk (stored starts counts v) ≡ tablesPass true (countAt counts) b starts counts v
+  unfolding referencesOk
+  references-are b =
+      ap (λ (l : ℕ → ℕ). everyLine (namesLine l) (lineNamesLine l) (stored starts counts v)) (lines-are starts counts v)
+      ∙ by-5 (countAt counts) b (stored starts counts v)
+      ∙ passes-are true (countAt counts) b v starts counts
+
+-- ---- the head line
+
+module _ (starts counts v : List ℕ) (fit : countsFit counts ≡ true) where
+  count-fits : (t : ℕ) → t < length tables → (tableAt t .least ≤ getD counts t 0) × (getD counts t 0 ≤ tableAt t .most)
+  unfolding countsFit
+  count-fits t h =
+      let e = every-at (length tables) (λ t. leb (tableAt t .least) (getD counts t 0) && leb (getD counts t 0) (tableAt t .most)) t h fit in (
+        leb-true (tableAt t .least) (getD counts t 0) (and-left (leb (tableAt t .least) (getD counts t 0)) (leb (getD counts t 0) (tableAt t .most)) e),
+        leb-true (getD counts t 0) (tableAt t .most) (and-right (leb (tableAt t .least) (getD counts t 0)) (leb (getD counts t 0) (tableAt t .most)) e),
+      )
+
+  pub head-cell : (j : ℕ) → j < 6 → cell (rowsAt (stored starts counts v) 0) 0 j ≡ getD v (getD starts 0 0 + j) 0
+  unfolding width
+  head-cell j h =
+      let k : 0 < getD counts 0 0 = count-fits 0 (omega arith) .0 in
+      ap (λ (R : List (List ℕ)). cell R 0 j) (rows-placed starts counts v 0 (omega arith))
+      ∙ cell-at v (getD starts 0 0) 6 (getD counts 0 0) 0 j k h
+      ∙ rw (zero-mul 6, add-zero (getD starts 0 0))
+
+  pub lies : Low starts counts → (t : ℕ) → t < length tables
+      → (getD starts t 0 + getD counts t 0 * width (tableAt t) ≤ 100000) × (getD counts t 0 ≤ tableAt t .most)
+  lies low t h = (low t h, count-fits t h .1)
+
+-- ---- the scene
+
+module _ (starts counts v : List ℕ) (fit : countsFit counts ≡ true) where
+  pub scene-is : (h : Head) (r1 : List ClockLine) (r2 : List TrackLine) (r3 : List SendLine) (r4 : List RouteLine) (r5 : List SoundLine) (r6 : List OrderLine) → h ≡ headOf (take 6 (drop (getD starts 0 0) v))
+      → r1 ≡ filled 8 emptyClockLine clockOf (rowsIn v (getD starts 1 0) 3 (getD counts 1 0))
+      → r2 ≡ filled 32 emptyTrackLine trackOf (rowsIn v (getD starts 2 0) 2 (getD counts 2 0))
+      → r3 ≡ filled 8 emptySendLine sendOf (rowsIn v (getD starts 3 0) 1 (getD counts 3 0))
+      → r4 ≡ filled 64 emptyRouteLine routeOf (rowsIn v (getD starts 4 0) 3 (getD counts 4 0))
+      → r5 ≡ filled 64 emptySoundLine soundOf (rowsIn v (getD starts 5 0) 3 (getD counts 5 0))
+      → r6 ≡ filled 128 emptyOrderLine orderOf (rowsIn v (getD starts 6 0) 10 (getD counts 6 0))
+      → _≡_ {A = Scene} (record { head = h; «clock_count» = getD counts 1 0; clocks = r1; «track_count» = getD counts 2 0; tracks = r2; «send_count» = getD counts 3 0; sends = r3; «route_count» = getD counts 4 0; routes = r4; «sound_count» = getD counts 5 0; sounds = r5; «order_count» = getD counts 6 0; orders = r6 }) (sceneOf (stored starts counts v))
+  unfolding sceneOf stored placedFrom width
+  scene-is h r1 r2 r3 r4 r5 r6 e0 e1 e2 e3 e4 e5 e6 =
+      let k : 0 < getD counts 0 0 = count-fits starts counts v fit 0 (omega arith) .0 in
+      let z : getD starts 0 0 + 0 * 6 ≡ getD starts 0 0 = omega arith in
+      rw (row-at v (getD starts 0 0) 6 (getD counts 0 0) 0 k, z, ← e0, e1, e2, e3, e4, e5, e6, rows-length v (getD starts 1 0) 3 (getD counts 1 0), rows-length v (getD starts 2 0) 2 (getD counts 2 0), rows-length v (getD starts 3 0) 1 (getD counts 3 0), rows-length v (getD starts 4 0) 3 (getD counts 4 0), rows-length v (getD starts 5 0) 3 (getD counts 5 0), rows-length v (getD starts 6 0) 10 (getD counts 6 0))
+
+pub no-scene-is : (h : Head) (x1 : ClockLine) (x2 : TrackLine) (x3 : SendLine) (x4 : RouteLine) (x5 : SoundLine) (x6 : OrderLine) → h ≡ emptyHead → x1 ≡ emptyClockLine → x2 ≡ emptyTrackLine → x3 ≡ emptySendLine → x4 ≡ emptyRouteLine → x5 ≡ emptySoundLine → x6 ≡ emptyOrderLine
+    → _≡_ {A = Scene} (record { head = h; «clock_count» = 0; clocks = replicate 8 x1; «track_count» = 0; tracks = replicate 32 x2; «send_count» = 0; sends = replicate 8 x3; «route_count» = 0; routes = replicate 64 x4; «sound_count» = 0; sounds = replicate 64 x5; «order_count» = 0; orders = replicate 128 x6 }) emptyScene
+unfolding emptyScene
+no-scene-is h x1 x2 x3 x4 x5 x6 e0 e1 e2 e3 e4 e5 e6 = rw (e0, e1, e2, e3, e4, e5, e6)

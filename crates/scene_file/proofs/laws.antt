@@ -1,0 +1,5 @@
+pub mod Blocks
+pub mod Fields
+pub mod Layout
+pub mod Numbers
+pub mod Small

@@ -1,0 +1,31 @@
+-- Laws of question 1, as the code asks it.
+use mathlib.Core.Path.{_≡_}
+use mathlib.Core.Bool.{false, true, _&&_}
+use mathlib.Core.List.{List}
+use Prim.Native.Nat.{ℕ, _-_, _<_, _≤_}
+use native.Mathlib.Omega.{arith}
+use borrow.Author.Tests.{le-leb, lt-leb, leb-true}
+use lib.Dec.{eqb, leb}
+use lib.ListN.{length, getD}
+use Rattle.scene_file.proofs.laws.Small.{and-false}
+use Rattle.scene_questions.specs.Questions.{sizeOk}
+use Rattle.scene_questions.proofs.laws.Loops.{and-left, and-right}
+
+module _ (file : List ℕ) where
+  pub size-empty : length file ≡ 0 → false ≡ sizeOk file
+  unfolding sizeOk
+  size-empty h = rw h
+
+  pub size-large : 16384 < length file → false ≡ sizeOk file
+  unfolding sizeOk
+  size-large h = rw (lt-leb (length file) 16384 h, and-false (leb 1 (length file)))
+
+  pub size-last : (length file ≡ 0 → ⊥) → length file ≤ 16384 → eqb (getD file (length file - 1) 0) 10 ≡ sizeOk file
+  unfolding sizeOk
+  size-last h k = rw (le-leb 1 (length file) (omega arith), le-leb (length file) 16384 k)
+
+  pub size-small : sizeOk file ≡ true → length file ≤ 16384
+  unfolding sizeOk
+  size-small e =
+      leb-true (length file) 16384
+      (and-right (leb 1 (length file)) (leb (length file) 16384) (and-left (leb 1 (length file) && leb (length file) 16384) (eqb (getD file (length file - 1) 0) 10) e))

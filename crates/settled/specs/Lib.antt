@@ -1,3 +1,0 @@
-pub mod ShowRows
-pub mod ShowSettled
-pub mod Settled

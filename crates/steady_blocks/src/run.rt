@@ -1,0 +1,141 @@
+// Blocks of a mixer that stands still, one after the other, until orders are read or the show ends.
+ghost use mathlib.Core.Path.{_≡_};
+ghost use Prim.Native.Nat.{ℕ, _+_, _-_, _*_, _≤_, _<_};
+ghost use lib.ListN.{length, getD};
+ghost use Rattle.laws.specs.Pieces.{pieces, putAt};
+ghost use Rattle.gain_table.specs.GainTable.{IsGainTable};
+ghost use Rattle.accepted.specs.Lines.{soundLine};
+ghost use Rattle.renderer.specs.Renderer.{chunkCount, chunkFrames, blockSamples};
+ghost use Rattle.chunk.specs.Chunk.{IsParts};
+ghost use Rattle.steady_mixer.specs.Steady.{afterRun};
+ghost use Rattle.steady_blocks.specs.SteadyBlock.{blocksRun, nearerBlock, nextOrders, playedBy, RunOk};
+use crate::advance::SOUND_LEFTS;
+use crate::block::steady_block;
+use clock::Clocks;
+use mixer::Mixer;
+use scene::Scene;
+
+// The mixer before `block`, whose orders are not read yet.
+pub struct Run {
+    pub mixer: Mixer,
+    pub block: usize,
+}
+
+fn nearer_block(first: usize, block: usize, end: usize) -> usize
+    ensures { λ r. ⌜ r ≡ nearerBlock first block end ⌝ }
+{
+    if first < block {
+        if block < end {
+            return block;
+        }
+    }
+    end
+}
+
+// The next block with orders, or the show's end.
+fn next_orders(scene: Scene, first: usize) -> usize
+    requires { ⌜ scene .«order_count» ≤ 128 ⌝ }
+    ensures { λ r. ⌜ r ≡ nextOrders scene first ⌝ }
+{
+    let orders = scene.orders;
+    let count = scene.order_count;
+    let head = scene.head;
+    let mut end = head.blocks;
+    let mut i = 0;
+    while i < count {
+        let order = orders[i];
+        end = nearer_block(first, order.block, end);
+        i += 1;
+    }
+    end
+}
+
+// How far sounds have played, by what the tables have left of them.
+fn played_by(scene: Scene, places: &[usize; 389], played: [usize; 64]) -> [usize; 64]
+    requires { ⌜ scene .«sound_count» ≤ 64 ⌝ }
+    requires { ⌜ ((k : ℕ) → k < scene .«sound_count» → getD (now places) (320 + k) 0 ≤ soundLine scene k .count) ⌝ }
+    ensures { λ r. ⌜ r ≡ playedBy scene (now (places .entry)) played ⌝ }
+{
+    let lines = scene.sounds;
+    let count = scene.sound_count;
+    let mut done = played;
+    let mut k = 0;
+    while k < count {
+        let line = lines[k];
+        done[k] = line.count - places[SOUND_LEFTS + k];
+        k += 1;
+    }
+    done
+}
+
+fn with_run(mixer: Mixer, clocks: Clocks, played: [usize; 64]) -> Mixer
+    ensures { λ r. ⌜ r ≡ afterRun clocks played mixer ⌝ }
+{
+    let main_volume = mixer.main_volume;
+    let tracks = mixer.tracks;
+    let sends = mixer.sends;
+    let routes = mixer.routes;
+    Mixer {
+        clocks,
+        main_volume,
+        tracks,
+        sends,
+        routes,
+        played,
+    }
+}
+
+// From block `first` on, whose orders are read.
+pub fn steady_blocks(
+    mixer: Mixer,
+    scene: Scene,
+    samples: &[f32],
+    table: &[u64; 1345],
+    full: &[f32; 256],
+    last: &[f32; 256],
+    first: usize,
+    out: &mut [f32],
+) -> Run
+    requires { ⌜ IsGainTable (now table) ⌝ }
+    requires { ⌜ RunOk scene mixer first (now samples) ⌝ }
+    requires { ⌜ IsParts (scene .head .buffer) (now full) ⌝ }
+    requires { ⌜ IsParts (chunkFrames (scene .head) (chunkCount (scene .head) - 1)) (now last) ⌝ }
+    requires { ⌜ length (now out) ≡ scene .head .block * scene .head .blocks * scene .head .channels ⌝ }
+    ensures block { λ r. ⌜ r .block ≡ nextOrders scene first ⌝ }
+    ensures mixer { λ r. ⌜ r .mixer ≡ blocksRun scene (nextOrders scene first - first) mixer ⌝ }
+    ensures samples { λ _. ⌜ now (out .exit) ≡ putAt (first * (scene .head .block * scene .head .channels)) (pieces (λ j. blockSamples scene (now (samples .entry)) (blocksRun scene j mixer)) (nextOrders scene first - first)) (now (out .entry)) ⌝ }
+{
+    let head = scene.head;
+    let width = head.block * head.channels;
+    let chunk = mixer_chunk::chunk_of(scene, mixer, head.buffer, table);
+    let mut places = [0usize; 389];
+    let mut values = [0.0f32; 210];
+    chunk::flatten(chunk, &mut places, &mut values);
+    let end = next_orders(scene, first);
+    let count = end - first;
+    let mut clocks = mixer.clocks;
+    let mut j = 0;
+    while j < count {
+        let from = (first + j) * width;
+        let to = from + width;
+        clocks = steady_block(
+            &mut places,
+            &values,
+            clocks,
+            head,
+            samples,
+            table,
+            full,
+            last,
+            &mut out[from..to],
+        );
+        j += 1;
+    }
+    let done = mixer.played;
+    let played = played_by(scene, &places, done);
+    let run = with_run(mixer, clocks, played);
+    Run {
+        mixer: run,
+        block: end,
+    }
+}

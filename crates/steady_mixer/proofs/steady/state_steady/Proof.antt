@@ -1,0 +1,60 @@
+-- `state_steady` meets its contract: each arm is the definition's. Assumes nothing.
+use mathlib.Core.Path.{sym, ap}
+use borrow.Author.Needs.{needs}
+use Rattle.steady_mixer.proofs.steady.state_steady.Statement.{statement}
+use Rattle.steady_mixer.specs.Steady.{stateSteady}
+use Rattle.steady_mixer.proofs.steady.state_steady.Tie as tie
+
+enum-told : tie.Need-enum-told
+enum-told c = search needs
+
+enum-told-2 : tie.Need-enum-told-2
+enum-told-2 c = search needs
+
+enum-told-3 : tie.Need-enum-told-3
+enum-told-3 c = search needs
+
+enum-told-4 : tie.Need-enum-told-4
+enum-told-4 c = search needs
+
+enum-told-5 : tie.Need-enum-told-5
+enum-told-5 c = search needs
+
+enum-told-6 : tie.Need-enum-told-6
+enum-told-6 c = search needs
+
+enum-told-7 : tie.Need-enum-told-7
+enum-told-7 c = search needs
+
+returns : tie.Need-returns
+unfolding stateSteady
+returns c = ap stateSteady (sym (c .enum-told .given .1))
+
+returns-2 : tie.Need-returns-2
+unfolding stateSteady
+returns-2 c = ap stateSteady (sym (c .enum-told2 .given .1))
+
+returns-3 : tie.Need-returns-3
+unfolding stateSteady
+returns-3 c = ap stateSteady (sym (c .enum-told3 .given .1))
+
+returns-4 : tie.Need-returns-4
+unfolding stateSteady
+returns-4 c = ap stateSteady (sym (c .enum-told4 .given .1))
+
+returns-5 : tie.Need-returns-5
+unfolding stateSteady
+returns-5 c = ap stateSteady (sym (c .enum-told5 .given .1))
+
+returns-6 : tie.Need-returns-6
+unfolding stateSteady
+returns-6 c = ap stateSteady (sym (c .enum-told6 .given .1))
+
+returns-7 : tie.Need-returns-7
+unfolding stateSteady
+returns-7 c = ap stateSteady (sym (c .enum-told7 .given .1))
+
+pub state-steady-spec : {M : Type 1} → statement M
+state-steady-spec =
+    tie.close
+    (tie.spec enum-told enum-told-2 enum-told-3 enum-told-4 enum-told-5 enum-told-6 enum-told-7 returns returns-2 returns-3 returns-4 returns-5 returns-6 returns-7)

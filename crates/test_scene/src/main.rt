@@ -1,0 +1,47 @@
+// Reads cases from standard input (`vectors`, cases.rt) and prints the number of each.
+ghost use Prim.Native.Nat.{_≤_};
+ghost use lib.ListN.{length};
+use libc::STDIN_FILENO;
+use libc::STDOUT_FILENO;
+
+fn number_of(file: &[u8], bytes: &[u8], output: usize) -> u32 {
+    let mut room = [0.0f32; 16384];
+    let n = test_replay::samples_of(bytes, &mut room);
+    let answer = scene_reader::read_scene(file, &room[..n], output);
+    answer.number
+}
+
+// Prints the number of the case that the input begins with, and answers how many bytes it has: none
+// where it is no whole case.
+fn answer_case(input: &[u8]) -> usize
+    ensures { λ r. ⌜ r ≤ length (now (input .entry)) ⌝ }
+{
+    let case = test_replay::first_case(input);
+    let start = case.start;
+    let middle = case.middle;
+    let end = case.end;
+    if end == 0 {
+        return 0;
+    }
+    let number = number_of(&input[start..middle], &input[middle..end], case.output);
+    io::print_decimal(STDOUT_FILENO, number as u64);
+    io::write_all(STDOUT_FILENO, b"\n");
+    end
+}
+
+fn answer_cases(input: &[u8]) {
+    let mut at = 0;
+    while at < input.len() {
+        let length = answer_case(&input[at..]);
+        if length == 0 {
+            return;
+        }
+        at += length;
+    }
+}
+
+fn main() {
+    let mut buffer = test_replay::buffer();
+    let n = io::read_full(STDIN_FILENO, &mut buffer);
+    answer_cases(&buffer[..n]);
+}

@@ -1,0 +1,4 @@
+pub mod Tween
+pub mod Tweenable
+pub mod StartTime
+pub mod ChunkTime
