@@ -14,3 +14,4 @@ pub mod FloatLiteral
 pub mod Amount
 pub mod Interpolate
 pub mod DecibelRange
+pub mod Turns

@@ -7,6 +7,7 @@ use lib.Dec.{eqb}
 use lib.IntN.{pos}
 use lib.ListN.{getD, set, replicate}
 use lib.Ieee.{Float, nan, binary32, binary64, ofInt}
+use Rattle.limits.specs.Limits.{clockLines, trackPlaces, sendLines, routeLines, soundLines}
 use Rattle.laws.specs.Loop.{upto, changed}
 use Rattle.decibels.specs.declared.decibels.Decibels.{Decibels}
 use Rattle.clock.specs.declared.clock.Clock.{Clock}
@@ -42,16 +43,16 @@ unfoldable pub emptyClock : Clock
 emptyClock = newClock (TicksPerSecond (ofInt binary64 (pos 0))) false
 
 unfoldable pub clocksNew : Scene → Clocks
-clocksNew s = record { clocks = changed (λ i c. newClock (clockLine s i .speed) (clockLine s i .ticking)) (s .«clock_count») (replicate 8 emptyClock); count = s .«clock_count» }
+clocksNew s = record { clocks = changed (λ i c. newClock (clockLine s i .speed) (clockLine s i .ticking)) (s .«clock_count») (replicate clockLines emptyClock); count = s .«clock_count» }
 
 unfoldable pub tracksNew : Scene → List Track
-tracksNew s = changed (λ t x. trackNew (trackLine s t .volume)) (s .«track_count») (replicate 32 emptyTrack)
+tracksNew s = changed (λ t x. trackNew (trackLine s t .volume)) (s .«track_count») (replicate trackPlaces emptyTrack)
 
 unfoldable pub sendsNew : Scene → List Parameter
-sendsNew s = changed (λ i x. parameterNew (sendLine s i .volume)) (s .«send_count») (replicate 8 emptyParameter)
+sendsNew s = changed (λ i x. parameterNew (sendLine s i .volume)) (s .«send_count») (replicate sendLines emptyParameter)
 
 unfoldable pub routesNew : Scene → List Parameter
-routesNew s = changed (λ r x. parameterNew (routeLine s r .volume)) (s .«route_count») (replicate 64 emptyParameter)
+routesNew s = changed (λ r x. parameterNew (routeLine s r .volume)) (s .«route_count») (replicate routeLines emptyParameter)
 
 unfoldable pub mixerNew : Scene → Mixer
 mixerNew s =
@@ -61,7 +62,7 @@ mixerNew s =
       tracks = tracksNew s;
       sends = sendsNew s;
       routes = routesNew s;
-      played = replicate 64 0;
+      played = replicate soundLines 0;
     }
 
 -- ---- states by their lines. Past an array's end stands what the language gives there, which nothing reads.

@@ -3,6 +3,7 @@ use mathlib.Core.Path.{_≡_}
 use Prim.Native.Nat.{ℕ, _+_, _*_, _^_, _≤_, _<_}
 use lib.Dec.{T}
 use lib.ListN.{getD, length}
+use Rattle.limits.specs.Limits.{trackPlaces, sendLines, routeLines, soundLines}
 use Rattle.decibels.specs.Decibels.{admitted}
 use Rattle.clock.specs.WhenToStart.{ClocksWithin}
 use Rattle.parameter.specs.Range.{ParameterIn, valueRange}
@@ -22,10 +23,10 @@ pub record MixerOk (s : Scene) (chunks : ℕ) (m : Mixer) : Type 0 where
   pub clockCount : m .clocks .count ≡ s .«clock_count»
   pub clocks : ClocksWithin (chunks * 1001) (m .clocks)
   pub main : ParameterIn valueRange (m .«main_volume»)
-  pub trackPlaces : length (m .tracks) ≡ 32
-  pub sendPlaces : length (m .sends) ≡ 8
-  pub routePlaces : length (m .routes) ≡ 64
-  pub soundPlaces : length (m .played) ≡ 64
+  pub trackPlaces : length (m .tracks) ≡ trackPlaces
+  pub sendPlaces : length (m .sends) ≡ sendLines
+  pub routePlaces : length (m .routes) ≡ routeLines
+  pub soundPlaces : length (m .played) ≡ soundLines
   pub tracks : (t : ℕ) → t < s .«track_count» → TrackOk (s .«clock_count») (stateOf (m .tracks) t)
   pub sends : (i : ℕ) → i < s .«send_count» → ParameterIn valueRange (parameterOf (m .sends) i)
   pub routes : (r : ℕ) → r < s .«route_count» → ParameterIn valueRange (parameterOf (m .routes) r)

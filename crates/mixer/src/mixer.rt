@@ -7,11 +7,18 @@ ghost use Rattle.clock.specs.WhenToStart.{CanMoveAll};
 ghost use Rattle.accepted.specs.Lines.{absentTrackLine, absentRouteLine};
 ghost use Rattle.accepted.specs.SceneOk.{SceneOk, Names};
 ghost use Rattle.mixer.specs.Mixer.{clocksNew, tracksNew, sendsNew, routesNew, mixerNew, liveAt, tracksUpdate, updatedWhere, routesUpdate, sendsUpdate, mixerUpdate};
+ghost use Rattle.limits.specs.Limits.{clockLines, trackPlaces, sendLines, routeLines};
 use crate::sub::Track;
 use clock::Clock;
 use clock::ClockSpeed;
 use clock::Clocks;
 use decibels::Decibels;
+use limits::CLOCK_LINES;
+use limits::ROUTE_LINES;
+use limits::SEND_LINES;
+use limits::SOUND_LINES;
+use limits::TRACK_LINES;
+use limits::TRACK_PLACES;
 use parameter::Parameter;
 use scene::RouteLine;
 use scene::Scene;
@@ -21,19 +28,19 @@ use scene::TrackLine;
 pub struct Mixer {
     pub clocks: Clocks,
     pub main_volume: Parameter,
-    pub tracks: [Track; 32],
-    pub sends: [Parameter; 8],
-    pub routes: [Parameter; 64],
+    pub tracks: [Track; TRACK_PLACES],
+    pub sends: [Parameter; SEND_LINES],
+    pub routes: [Parameter; ROUTE_LINES],
     // How many frames each sound has played.
-    pub played: [usize; 64],
+    pub played: [usize; SOUND_LINES],
 }
 
 fn new_clocks(scene: Scene) -> Clocks
-    requires { ⌜ scene .«clock_count» ≤ 8 ⌝ }
+    requires { ⌜ scene .«clock_count» ≤ clockLines ⌝ }
     ensures { λ r. ⌜ r ≡ clocksNew scene ⌝ }
 {
     let lines = scene.clocks;
-    let mut clocks = [Clock::new(ClockSpeed::TicksPerSecond(0.0), false); 8];
+    let mut clocks = [Clock::new(ClockSpeed::TicksPerSecond(0.0), false); CLOCK_LINES];
     let count = scene.clock_count;
     let mut i = 0;
     while i < count {
@@ -45,12 +52,12 @@ fn new_clocks(scene: Scene) -> Clocks
     Clocks { clocks, count }
 }
 
-fn new_tracks(scene: Scene) -> [Track; 32]
-    requires { ⌜ scene .«track_count» ≤ 32 ⌝ }
+fn new_tracks(scene: Scene) -> [Track; TRACK_PLACES]
+    requires { ⌜ scene .«track_count» ≤ trackPlaces ⌝ }
     ensures { λ r. ⌜ r ≡ tracksNew scene ⌝ }
 {
     let lines = scene.tracks;
-    let mut tracks = [Track::new(Decibels(0.0)); 32];
+    let mut tracks = [Track::new(Decibels(0.0)); TRACK_PLACES];
     let count = scene.track_count;
     let mut t = 0;
     while t < count {
@@ -62,12 +69,12 @@ fn new_tracks(scene: Scene) -> [Track; 32]
     tracks
 }
 
-fn new_sends(scene: Scene) -> [Parameter; 8]
-    requires { ⌜ scene .«send_count» ≤ 8 ⌝ }
+fn new_sends(scene: Scene) -> [Parameter; SEND_LINES]
+    requires { ⌜ scene .«send_count» ≤ sendLines ⌝ }
     ensures { λ r. ⌜ r ≡ sendsNew scene ⌝ }
 {
     let lines = scene.sends;
-    let mut sends = [Parameter::new(Decibels(0.0)); 8];
+    let mut sends = [Parameter::new(Decibels(0.0)); SEND_LINES];
     let count = scene.send_count;
     let mut i = 0;
     while i < count {
@@ -79,12 +86,12 @@ fn new_sends(scene: Scene) -> [Parameter; 8]
     sends
 }
 
-fn new_routes(scene: Scene) -> [Parameter; 64]
-    requires { ⌜ scene .«route_count» ≤ 64 ⌝ }
+fn new_routes(scene: Scene) -> [Parameter; ROUTE_LINES]
+    requires { ⌜ scene .«route_count» ≤ routeLines ⌝ }
     ensures { λ r. ⌜ r ≡ routesNew scene ⌝ }
 {
     let lines = scene.routes;
-    let mut routes = [Parameter::new(Decibels(0.0)); 64];
+    let mut routes = [Parameter::new(Decibels(0.0)); ROUTE_LINES];
     let count = scene.route_count;
     let mut r = 0;
     while r < count {
@@ -119,16 +126,16 @@ pub fn live_above(track: Track, line: usize) -> bool
 
 // Every track, in line order: a parent stands on an earlier line.
 fn update_tracks(
-    tracks: [Track; 32],
-    lines: [TrackLine; 32],
+    tracks: [Track; TRACK_PLACES],
+    lines: [TrackLine; TRACK_LINES],
     count: usize,
     dt: f64,
     clocks: Clocks,
-) -> [Track; 32]
-    requires { ⌜ count ≤ 32 ⌝ }
+) -> [Track; TRACK_PLACES]
+    requires { ⌜ count ≤ trackPlaces ⌝ }
     requires { ⌜ ((t : ℕ) → t < count → getD lines t absentTrackLine .parent ≤ t) ⌝ }
     requires { ⌜ InAnHour dt ⌝ }
-    requires { ⌜ clocks .count ≤ 8 ⌝ }
+    requires { ⌜ clocks .count ≤ clockLines ⌝ }
     ensures { λ r. ⌜ r ≡ tracksUpdate lines count dt clocks tracks ⌝ }
 {
     let mut moved = tracks;
@@ -148,7 +155,7 @@ fn update_tracks(
 // The value after a chunk, where it moves.
 fn update_where(parameter: Parameter, moves: bool, dt: f64, clocks: Clocks) -> Parameter
     requires { ⌜ InAnHour dt ⌝ }
-    requires { ⌜ clocks .count ≤ 8 ⌝ }
+    requires { ⌜ clocks .count ≤ clockLines ⌝ }
     ensures { λ r. ⌜ r ≡ updatedWhere parameter moves dt clocks ⌝ }
 {
     if moves {
@@ -159,17 +166,17 @@ fn update_where(parameter: Parameter, moves: bool, dt: f64, clocks: Clocks) -> P
 }
 
 fn update_routes(
-    routes: [Parameter; 64],
-    lines: [RouteLine; 64],
+    routes: [Parameter; ROUTE_LINES],
+    lines: [RouteLine; ROUTE_LINES],
     count: usize,
-    tracks: [Track; 32],
+    tracks: [Track; TRACK_PLACES],
     dt: f64,
     clocks: Clocks,
-) -> [Parameter; 64]
-    requires { ⌜ count ≤ 64 ⌝ }
-    requires { ⌜ ((r : ℕ) → r < count → Names 32 (getD lines r absentRouteLine .track)) ⌝ }
+) -> [Parameter; ROUTE_LINES]
+    requires { ⌜ count ≤ routeLines ⌝ }
+    requires { ⌜ ((r : ℕ) → r < count → Names trackPlaces (getD lines r absentRouteLine .track)) ⌝ }
     requires { ⌜ InAnHour dt ⌝ }
-    requires { ⌜ clocks .count ≤ 8 ⌝ }
+    requires { ⌜ clocks .count ≤ clockLines ⌝ }
     ensures { λ r. ⌜ r ≡ routesUpdate lines count dt clocks tracks routes ⌝ }
 {
     let mut moved = routes;
@@ -184,10 +191,15 @@ fn update_routes(
     moved
 }
 
-fn update_sends(sends: [Parameter; 8], count: usize, dt: f64, clocks: Clocks) -> [Parameter; 8]
-    requires { ⌜ count ≤ 8 ⌝ }
+fn update_sends(
+    sends: [Parameter; SEND_LINES],
+    count: usize,
+    dt: f64,
+    clocks: Clocks,
+) -> [Parameter; SEND_LINES]
+    requires { ⌜ count ≤ sendLines ⌝ }
     requires { ⌜ InAnHour dt ⌝ }
-    requires { ⌜ clocks .count ≤ 8 ⌝ }
+    requires { ⌜ clocks .count ≤ clockLines ⌝ }
     ensures { λ r. ⌜ r ≡ sendsUpdate count dt clocks sends ⌝ }
 {
     let mut moved = sends;
@@ -219,7 +231,7 @@ impl Mixer {
             tracks,
             sends,
             routes,
-            played: [0usize; 64],
+            played: [0usize; SOUND_LINES],
         }
     }
 

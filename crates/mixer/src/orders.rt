@@ -4,111 +4,19 @@ ghost use Prim.Native.Nat.{_≤_, _<_};
 ghost use Rattle.accepted.specs.SceneOk.{SceneOk, OrderOk, Names};
 ghost use Rattle.parameter.specs.Parameter.{parameterSet};
 ghost use Rattle.mixer.specs.Sub.{trackSet, trackPause, trackResume};
-ghost use Rattle.mixer.specs.Orders.{kindNumber, sameKindAndIndex, foundLater, overridden, counts, tweenOf, resumeTweenOf, mapMain, mapTrack, mapSend, mapRoute, orderedBy, resumedBy, orderStep, resumeStep, mixerOrdered};
+ghost use Rattle.mixer.specs.Orders.{mapMain, mapTrack, mapSend, mapRoute, orderedBy, resumedBy, orderStep, resumeStep, mixerOrdered};
 ghost use Rattle.laws.specs.Loop.{upto};
+ghost use Rattle.limits.specs.Limits.{trackPlaces, sendLines, routeLines};
 use crate::mixer::Mixer;
 use decibels::Decibels;
+use order_lines::counts;
+use order_lines::resume_tween_of;
+use order_lines::tween_of;
 use scene::OrderKind;
 use scene::OrderLine;
 use scene::Scene;
 use tween::StartTime;
 use tween::Tween;
-
-fn kind_number(kind: OrderKind) -> u32
-    ensures { λ r. ⌜ r ≡ kindNumber kind ⌝ }
-{
-    match kind {
-        OrderKind::MainVolume => 0,
-        OrderKind::TrackVolume => 1,
-        OrderKind::SendVolume => 2,
-        OrderKind::RouteVolume => 3,
-        OrderKind::Pause => 4,
-        OrderKind::Resume => 5,
-    }
-}
-
-// Of one block, and alike in kind and index.
-fn alike(a: OrderLine, b: OrderLine) -> bool
-    ensures { λ r. ⌜ r ≡ sameKindAndIndex a b ⌝ }
-{
-    if a.block != b.block {
-        return false;
-    }
-    let kind = a.kind;
-    let other = b.kind;
-    if kind_number(kind) != kind_number(other) {
-        return false;
-    }
-    a.index == b.index
-}
-
-// Whether the other order, on line j, is later and alike, or such a one was found before.
-fn found_later(order: OrderLine, other: OrderLine, i: usize, j: usize, found: bool) -> bool
-    ensures { λ r. ⌜ r ≡ foundLater order other i j found ⌝ }
-{
-    if j <= i {
-        return found;
-    }
-    if alike(order, other) {
-        return true;
-    }
-    found
-}
-
-// Whether a later order is alike.
-fn overridden(orders: [OrderLine; 128], count: usize, i: usize) -> bool
-    requires { ⌜ count ≤ 128 ⌝ }
-    requires { ⌜ i < count ⌝ }
-    ensures { λ r. ⌜ r ≡ overridden orders count i ⌝ }
-{
-    let order = orders[i];
-    let mut found = false;
-    let mut j = 0;
-    while j < count {
-        let other = orders[j];
-        found = found_later(order, other, i, j, found);
-        j += 1;
-    }
-    found
-}
-
-fn counts(orders: [OrderLine; 128], count: usize, block: usize, i: usize) -> bool
-    requires { ⌜ count ≤ 128 ⌝ }
-    requires { ⌜ i < count ⌝ }
-    ensures { λ r. ⌜ r ≡ counts orders count block i ⌝ }
-{
-    let order = orders[i];
-    if order.block != block {
-        return false;
-    }
-    !overridden(orders, count, i)
-}
-
-fn tween_of(order: OrderLine) -> Tween
-    requires { ⌜ order .millis ≤ 3600000 ⌝ }
-    ensures { λ r. ⌜ r ≡ tweenOf order ⌝ }
-{
-    let start_time = order.start_time;
-    let easing = order.easing;
-    Tween {
-        start_time,
-        duration: order.millis as u32,
-        easing,
-    }
-}
-
-// The fade of a resume starts at once: the order's start is the resume's.
-fn resume_tween_of(order: OrderLine) -> Tween
-    requires { ⌜ order .millis ≤ 3600000 ⌝ }
-    ensures { λ r. ⌜ r ≡ resumeTweenOf order ⌝ }
-{
-    let easing = order.easing;
-    Tween {
-        start_time: StartTime::Immediate,
-        duration: order.millis as u32,
-        easing,
-    }
-}
 
 impl Mixer {
     fn set_main_volume(mut self, target: Decibels, tween: Tween) -> Mixer
@@ -120,7 +28,7 @@ impl Mixer {
     }
 
     fn set_track_volume(mut self, line: usize, target: Decibels, tween: Tween) -> Mixer
-        requires { ⌜ Names 32 line ⌝ }
+        requires { ⌜ Names trackPlaces line ⌝ }
         ensures { λ r. ⌜ r ≡ mapTrack line (λ t. trackSet t target tween) self ⌝ }
     {
         let i = line - 1;
@@ -132,7 +40,7 @@ impl Mixer {
     }
 
     fn set_send_volume(mut self, line: usize, target: Decibels, tween: Tween) -> Mixer
-        requires { ⌜ Names 8 line ⌝ }
+        requires { ⌜ Names sendLines line ⌝ }
         ensures { λ r. ⌜ r ≡ mapSend line (λ p. parameterSet p target tween) self ⌝ }
     {
         let i = line - 1;
@@ -144,7 +52,7 @@ impl Mixer {
     }
 
     fn set_route_volume(mut self, line: usize, target: Decibels, tween: Tween) -> Mixer
-        requires { ⌜ Names 64 line ⌝ }
+        requires { ⌜ Names routeLines line ⌝ }
         ensures { λ r. ⌜ r ≡ mapRoute line (λ p. parameterSet p target tween) self ⌝ }
     {
         let i = line - 1;
@@ -156,7 +64,7 @@ impl Mixer {
     }
 
     fn pause_track(mut self, line: usize, tween: Tween) -> Mixer
-        requires { ⌜ Names 32 line ⌝ }
+        requires { ⌜ Names trackPlaces line ⌝ }
         ensures { λ r. ⌜ r ≡ mapTrack line (λ t. trackPause t tween) self ⌝ }
     {
         let i = line - 1;
@@ -168,7 +76,7 @@ impl Mixer {
     }
 
     fn resume_track(mut self, line: usize, start: StartTime, tween: Tween) -> Mixer
-        requires { ⌜ Names 32 line ⌝ }
+        requires { ⌜ Names trackPlaces line ⌝ }
         ensures { λ r. ⌜ r ≡ mapTrack line (λ t. trackResume t start tween) self ⌝ }
     {
         let i = line - 1;

@@ -6,10 +6,13 @@ ghost use Rattle.accepted.specs.Lines.{absentSoundLine};
 ghost use Rattle.accepted.specs.SceneOk.{SceneOk};
 ghost use Rattle.mixer.specs.Mixer.{liveAt};
 ghost use Rattle.mixer.specs.Sounds.{playedMore, playedWhere, playedOn, soundsPlayed};
+ghost use Rattle.limits.specs.Limits.{trackPlaces, soundLines};
 use crate::mixer::Mixer;
 use crate::mixer::live_above;
 use crate::mixer::place_of;
 use crate::sub::Track;
+use limits::SOUND_LINES;
+use limits::TRACK_PLACES;
 use scene::Scene;
 use scene::SoundLine;
 
@@ -36,14 +39,14 @@ fn played_after(track: Track, line: SoundLine, frames: usize, done: usize) -> us
 }
 
 fn played_on(
-    played: [usize; 64],
-    lines: [SoundLine; 64],
+    played: [usize; SOUND_LINES],
+    lines: [SoundLine; SOUND_LINES],
     count: usize,
-    tracks: [Track; 32],
+    tracks: [Track; TRACK_PLACES],
     frames: usize,
-) -> [usize; 64]
-    requires { ⌜ count ≤ 64 ⌝ }
-    requires { ⌜ ((k : ℕ) → k < count → getD lines k absentSoundLine .track ≤ 32) ⌝ }
+) -> [usize; SOUND_LINES]
+    requires { ⌜ count ≤ soundLines ⌝ }
+    requires { ⌜ ((k : ℕ) → k < count → getD lines k absentSoundLine .track ≤ trackPlaces) ⌝ }
     requires { ⌜ ((k : ℕ) → k < count → getD played k 0 ≤ getD lines k absentSoundLine .count) ⌝ }
     ensures { λ r. ⌜ r ≡ playedOn lines count tracks frames played ⌝ }
 {

@@ -3,6 +3,7 @@ ghost use mathlib.Core.Path.{_≡_};
 ghost use Prim.Native.Nat.{_≤_};
 ghost use Rattle.rounding.specs.Duration.{InAnHour};
 ghost use Rattle.mixer.specs.Sub.{trackNew, trackMoved, trackStill, trackUpdate, trackSet, trackPause, trackResume};
+ghost use Rattle.limits.specs.Limits.{clockLines};
 use clock::Clocks;
 use decibels::Decibels;
 use parameter::Parameter;
@@ -33,7 +34,7 @@ impl Track {
     // One chunk of a track that is reached.
     fn moved(self, dt: f64, clocks: Clocks) -> Track
         requires { ⌜ InAnHour dt ⌝ }
-        requires { ⌜ clocks .count ≤ 8 ⌝ }
+        requires { ⌜ clocks .count ≤ clockLines ⌝ }
         ensures { λ r. ⌜ r ≡ trackMoved self dt clocks ⌝ }
     {
         let volume = self.volume;
@@ -66,7 +67,7 @@ impl Track {
 
     pub fn update(self, reached: bool, dt: f64, clocks: Clocks) -> Track
         requires { ⌜ InAnHour dt ⌝ }
-        requires { ⌜ clocks .count ≤ 8 ⌝ }
+        requires { ⌜ clocks .count ≤ clockLines ⌝ }
         ensures { λ r. ⌜ r ≡ trackUpdate self reached dt clocks ⌝ }
     {
         if reached {

@@ -82,5 +82,3 @@ blockSamples s samples m = pieces (λ k. chunkSamples s samples k (inChunk s k (
 -- the show
 unfoldable pub rendered : Scene → List Float → List Float
 rendered s samples = pieces (λ b. blockSamples s samples (mixerOrdered s b (mixerAt s b))) (s .head .blocks)
-
--- ---- the mixer in chunk k of block b

@@ -1,4 +1,3 @@
 pub mod Render
 pub mod Run
 pub mod Silence
-pub mod Blocks

@@ -9,6 +9,11 @@ ghost use Rattle.accepted.specs.SceneOk.{SceneOk, Names};
 ghost use Rattle.mixer.specs.Mixer.{stateOf, parameterOf};
 ghost use Rattle.mixer.specs.MixerOk.{MixerOk};
 ghost use Rattle.steady_mixer.specs.Steady.{parameterSteady, stateSteady, reachedSteady, steadyWhere, steadyTrack, routeSteady, steadyRoute, steadySend, mixerSteady, TrackIn};
+ghost use Rattle.limits.specs.Limits.{trackPlaces, sendLines, routeLines};
+use limits::ROUTE_LINES;
+use limits::SEND_LINES;
+use limits::TRACK_LINES;
+use limits::TRACK_PLACES;
 use mixer::Mixer;
 use mixer::Track;
 use parameter::Parameter;
@@ -84,8 +89,12 @@ fn track_steady(track: Track, reached: bool) -> bool
 }
 
 // Every track, in line order. A flag for the mixer and for each line says whether it is live.
-fn tracks_steady(lines: [TrackLine; 32], count: usize, tracks: [Track; 32]) -> bool
-    requires { ⌜ count ≤ 32 ⌝ }
+fn tracks_steady(
+    lines: [TrackLine; TRACK_LINES],
+    count: usize,
+    tracks: [Track; TRACK_PLACES],
+) -> bool
+    requires { ⌜ count ≤ trackPlaces ⌝ }
     requires { ⌜ ((t : ℕ) → t < count → getD lines t absentTrackLine .parent ≤ t) ⌝ }
     requires { ⌜ ((t : ℕ) → t < count → TrackIn (stateOf tracks t)) ⌝ }
     ensures { λ r. ⌜ r ≡ every count (steadyTrack lines tracks) ⌝ }
@@ -117,13 +126,13 @@ fn route_steady(route: Parameter, reached: bool) -> bool
 }
 
 fn routes_steady(
-    lines: [RouteLine; 64],
+    lines: [RouteLine; ROUTE_LINES],
     count: usize,
-    tracks: [Track; 32],
-    routes: [Parameter; 64],
+    tracks: [Track; TRACK_PLACES],
+    routes: [Parameter; ROUTE_LINES],
 ) -> bool
-    requires { ⌜ count ≤ 64 ⌝ }
-    requires { ⌜ ((r : ℕ) → r < count → Names 32 (getD lines r absentRouteLine .track)) ⌝ }
+    requires { ⌜ count ≤ routeLines ⌝ }
+    requires { ⌜ ((r : ℕ) → r < count → Names trackPlaces (getD lines r absentRouteLine .track)) ⌝ }
     requires { ⌜ ((r : ℕ) → r < count → ParameterIn valueRange (parameterOf routes r)) ⌝ }
     ensures { λ r. ⌜ r ≡ every count (steadyRoute lines tracks routes) ⌝ }
 {
@@ -140,8 +149,8 @@ fn routes_steady(
     true
 }
 
-fn sends_steady(count: usize, sends: [Parameter; 8]) -> bool
-    requires { ⌜ count ≤ 8 ⌝ }
+fn sends_steady(count: usize, sends: [Parameter; SEND_LINES]) -> bool
+    requires { ⌜ count ≤ sendLines ⌝ }
     requires { ⌜ ((i : ℕ) → i < count → ParameterIn valueRange (parameterOf sends i)) ⌝ }
     ensures { λ r. ⌜ r ≡ every count (steadySend sends) ⌝ }
 {

@@ -1,31 +1,19 @@
 -- The laws of the clocks' update: each clock moves by itself, and what is known of one clock's update holds of all. Assumes nothing.
-use mathlib.Core.Path.{_≡_, sym, ap, _∙_, subst}
-use mathlib.Core.List.{List}
+use mathlib.Core.Path.{_≡_, sym, _∙_, subst}
 use Prim.Native.Nat.{ℕ, _+_, _*_, _^_, _≤_, _<_}
 use native.Mathlib.Nat.{le-trans, le-of-eq, le-add-right}
 use native.Mathlib.Omega.{arith}
 use mathlib.Core.Bool.{Bool, true, false, not}
 use lib.Dec.{T, ltb, ltb→lt, nltb→le}
-use lib.ListN.{length, getD, set, List·getD-eq-default}
-use lib.Seq.{set-out}
+use lib.ListN.{length, getD, List·getD-eq-default}
 use lib.Ieee.{Float}
 use Rattle.laws.specs.Loop.{changed}
-use Rattle.laws.proofs.laws.Loop.{changed-length, changed-below, changed-turn, changed-all}
+use Rattle.laws.proofs.laws.Loop.{changed-length, changed-below}
 use Rattle.clock.specs.declared.clock.Clock.{Clock}
 use Rattle.clock.specs.declared.when_to_start.Clocks.{Clocks}
 use Rattle.clock.specs.Clock.{updated, IsStep, ClockWithin, lastTick}
 use Rattle.clock.specs.WhenToStart.{clocksUpdated, ClocksWithin, CanMoveAll, absentClock}
 use Rattle.clock.proofs.laws.Moves.{updated-within, within-more}
-
--- a turn of a loop that changes elements, past the list's end too
-pub changed-turn-any {ℓ} : {A : Type ℓ} (f : ℕ → A → A) (i : ℕ) (l : List A) (d : A) {now : List A} → now ≡ changed f i l → set now i (f i (getD now i d)) ≡ changed f (i + 1) l
-changed-turn-any f i l d {now} e = go (ltb i (length l)) (ltb→lt i (length l)) (nltb→le i (length l))
-  where
-    go : (b : Bool) → (T b → i < length l) → (T (not b) → length l ≤ i) → set now i (f i (getD now i d)) ≡ changed f (i + 1) l
-    go true h k = changed-turn f i l d (h tt) e
-    go false h k =
-        set-out now i (f i (getD now i d)) (le-trans (le-of-eq (ap length e ∙ changed-length f i l)) (k tt))
-        ∙ e ∙ changed-all f i l (k tt) ∙ sym (changed-all f (i + 1) l (le-trans (k tt) (le-add-right i 1)))
 
 -- the clock at an index, after the update
 pub updated-at : (cs : Clocks) (dt : Float) (i : ℕ) → i < cs .count → i < length (cs .clocks) → getD (clocksUpdated cs dt .clocks) i absentClock ≡ updated (getD (cs .clocks) i absentClock) dt

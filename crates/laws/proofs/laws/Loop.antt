@@ -4,14 +4,16 @@
 --   elements of a slice:    `changed f n l`, for `i = 0; while i < n { l[i] = f(i, l[i]); i += 1 }`; the invariant is `now ≡ changed f i l₀`
 -- In each the law named `-turn` takes the invariant at one turn to the invariant at the next, and the law named `-end` takes the invariant at the
 -- last turn to the contract. Assumes nothing.
-use mathlib.Core.Path.{_≡_, refl, sym, ap, ap₂, _∙_, subst}
+use mathlib.Core.Path.{_≡_, sym, ap, _∙_, subst, refl, ap₂}
 use mathlib.Core.List.{List, [], _∷_, _++_, map}
-use Prim.Native.Nat.{ℕ, zero, suc, _+_, _-_, _≤_, _<_, suc-le-suc}
-use native.Mathlib.Nat.{le-refl, le-trans, le-suc, le-of-suc-le-suc, not-suc-le-zero, lt-irrefl, zero-lt-suc, add-zero, add-suc, suc-sub-suc}
-use native.Mathlib.Numerals.{add-one, sub-one}
+use Prim.Native.Nat.{ℕ, _+_, _≤_, _<_, zero, suc, _-_, suc-le-suc}
+use native.Mathlib.Nat.{le-trans, le-of-eq, le-add-right, le-refl, le-suc, le-of-suc-le-suc, not-suc-le-zero, lt-irrefl, zero-lt-suc, add-zero, add-suc, suc-sub-suc}
+use mathlib.Core.Bool.{Bool, true, false, not}
+use lib.Dec.{T, ltb, ltb→lt, nltb→le}
 use lib.ListN.{length, getD, set, take, drop}
-use lib.Seq.{ext-getD}
-use Rattle.laws.specs.Loop.{upto, downto, changed}
+use lib.Seq.{set-out, ext-getD}
+use native.Mathlib.Numerals.{add-one, sub-one}
+use Rattle.laws.specs.Loop.{changed, upto, downto}
 
 -- ---- counting up
 
@@ -224,3 +226,13 @@ module _ {ℓ} {A : Type ℓ} where
       ap (λ (r : List A). set r n (f n (getD r n d))) (changed-upto f n l d (le-trans (le-suc n) h))
       ∙ ap (λ (x : A). set (changed f n l) n (f n x)) (changed-here f n l d)
       ∙ changed-store f n l d h
+
+-- a turn of a loop that changes elements, past the list's end too
+pub changed-turn-any {ℓ} : {A : Type ℓ} (f : ℕ → A → A) (i : ℕ) (l : List A) (d : A) {now : List A} → now ≡ changed f i l → set now i (f i (getD now i d)) ≡ changed f (i + 1) l
+changed-turn-any f i l d {now} e = go (ltb i (length l)) (ltb→lt i (length l)) (nltb→le i (length l))
+  where
+    go : (b : Bool) → (T b → i < length l) → (T (not b) → length l ≤ i) → set now i (f i (getD now i d)) ≡ changed f (i + 1) l
+    go true h k = changed-turn f i l d (h tt) e
+    go false h k =
+        set-out now i (f i (getD now i d)) (le-trans (le-of-eq (ap length e ∙ changed-length f i l)) (k tt))
+        ∙ e ∙ changed-all f i l (k tt) ∙ sym (changed-all f (i + 1) l (le-trans (k tt) (le-add-right i 1)))

@@ -1,10 +1,10 @@
 -- What the proofs of orders share: the line that an order names is there, one element of a mixer's arrays is stored, and a kind picks its arm.
 -- Assumes nothing.
 use mathlib.Core.Path.{_≡_, sym, ap, _∙_, subst}
-use mathlib.Core.Bool.{Bool, true, false, _&&_}
 use Prim.Native.Nat.{ℕ, _-_}
 use native.Mathlib.Nat.{le-trans}
 use lib.ListN.{set}
+use Rattle.limits.specs.Limits.{trackPlaces, sendLines, routeLines}
 use Rattle.parameter.specs.declared.parameter.Parameter.{Parameter}
 use Rattle.scene.specs.declared.scene.Scene.{Scene}
 use Rattle.scene.specs.declared.scene.OrderLine.{OrderLine}
@@ -16,33 +16,25 @@ use Rattle.mixer.specs.declared.mixer.Mixer.{Mixer}
 use Rattle.mixer.specs.Mixer.{stateOf, parameterOf}
 use Rattle.mixer.specs.Orders.{orderedBy, resumedBy, mapTrack, mapSend, mapRoute}
 
--- ---- two tests, one after the other
-
-pub first-no : (p q : Bool) → p ≡ false → false ≡ p && q
-first-no p q h = sym (ap (λ (b : Bool). b && q) h)
-
-pub first-yes : (p q : Bool) → p ≡ true → q ≡ p && q
-first-yes p q h = sym (ap (λ (b : Bool). b && q) h)
-
 -- ---- the line that an order names
 
 module _ {s : Scene} {o : OrderLine} (ok : SceneOk s) (order : OrderOk s o) where
   index-of : (k : OrderKind) → o .kind ≡ k → IndexOk s k (o .index)
   index-of k e = subst (λ (k : OrderKind). IndexOk s k (o .index)) e (order .index)
 
-  pub names-volume : o .kind ≡ TrackVolume → Names 32 (o .index)
+  pub names-volume : o .kind ≡ TrackVolume → Names trackPlaces (o .index)
   names-volume e = let n = index-of TrackVolume e in (n .0, le-trans (n .1) (ok .trackCount))
 
-  pub names-send : o .kind ≡ SendVolume → Names 8 (o .index)
+  pub names-send : o .kind ≡ SendVolume → Names sendLines (o .index)
   names-send e = let n = index-of SendVolume e in (n .0, le-trans (n .1) (ok .sendCount))
 
-  pub names-route : o .kind ≡ RouteVolume → Names 64 (o .index)
+  pub names-route : o .kind ≡ RouteVolume → Names routeLines (o .index)
   names-route e = let n = index-of RouteVolume e in (n .0, le-trans (n .1) (ok .routeCount))
 
-  pub names-pause : o .kind ≡ Pause → Names 32 (o .index)
+  pub names-pause : o .kind ≡ Pause → Names trackPlaces (o .index)
   names-pause e = let n = index-of Pause e in (n .0, le-trans (n .1) (ok .trackCount))
 
-  pub names-resume : o .kind ≡ Resume → Names 32 (o .index)
+  pub names-resume : o .kind ≡ Resume → Names trackPlaces (o .index)
   names-resume e = let n = index-of Resume e in (n .0, le-trans (n .1) (ok .trackCount))
 
 -- ---- one element is stored

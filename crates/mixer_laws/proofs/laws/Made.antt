@@ -3,6 +3,7 @@ use mathlib.Core.Path.{refl, sym, subst}
 use Prim.Native.Nat.{ℕ, _≤_, zero-le}
 use native.Mathlib.Nat.{le-trans}
 use lib.ListN.{replicate, length-replicate, getD-replicate}
+use Rattle.limits.specs.Limits.{clockLines, trackPlaces, sendLines, routeLines, soundLines}
 use Rattle.laws.specs.DecibelRange.{TargetRange}
 use Rattle.laws.proofs.laws.DecibelRange.{target→value}
 use Rattle.decibels.specs.declared.decibels.Decibels.{Decibels}
@@ -33,34 +34,34 @@ module _ (s : Scene) (ok : SceneOk s) where
   clocks-new-ok : ClocksWithin 0 (clocksNew s)
   unfolding clocksNew
   clocks-new-ok =
-      let clocks : ArrayOk (λ i c. ClockWithin 0 c) (s .«clock_count») 8 absentClock (clocksNew s .clocks)
-      = changed-array (replicate 8 emptyClock) (λ i c. newClock (clockLine s i .speed) (clockLine s i .ticking)) (ok .clockCount) (length-replicate 8 emptyClock)
+      let clocks : ArrayOk (λ i c. ClockWithin 0 c) (s .«clock_count») clockLines absentClock (clocksNew s .clocks)
+      = changed-array (replicate clockLines emptyClock) (λ i c. newClock (clockLine s i .speed) (clockLine s i .ticking)) (ok .clockCount) (length-replicate clockLines emptyClock)
       (λ i b. newClock-within (clockLine s i .speed) (clockLine s i .ticking) (ok .clocks i b .0) (ok .clocks i b .1)) in
       record { few = ok .clockCount; each = clocks .each }
 
   tracks-new-ok : TracksOk (s .«clock_count») (s .«track_count») (tracksNew s)
   unfolding tracksNew
   tracks-new-ok =
-      changed-array (replicate 32 emptyTrack) (λ t x. trackNew (trackLine s t .volume)) (ok .trackCount) (length-replicate 32 emptyTrack)
+      changed-array (replicate trackPlaces emptyTrack) (λ t x. trackNew (trackLine s t .volume)) (ok .trackCount) (length-replicate trackPlaces emptyTrack)
       (λ t b. track-new-ok (s .«clock_count») (trackLine s t .volume) (ok .tracks t b))
 
-  sends-new-ok : ParametersOk (s .«send_count») 8 (sendsNew s)
+  sends-new-ok : ParametersOk (s .«send_count») sendLines (sendsNew s)
   unfolding sendsNew
   sends-new-ok =
-      changed-array (replicate 8 emptyParameter) (λ i p. parameterNew (sendLine s i .volume)) (ok .sendCount) (length-replicate 8 emptyParameter)
+      changed-array (replicate sendLines emptyParameter) (λ i p. parameterNew (sendLine s i .volume)) (ok .sendCount) (length-replicate sendLines emptyParameter)
       (λ i b. parameter-new-ok (sendLine s i .volume) (ok .sends i b))
 
-  routes-new-ok : ParametersOk (s .«route_count») 64 (routesNew s)
+  routes-new-ok : ParametersOk (s .«route_count») routeLines (routesNew s)
   unfolding routesNew
   routes-new-ok =
-      changed-array (replicate 64 emptyParameter) (λ r p. parameterNew (routeLine s r .volume)) (ok .routeCount) (length-replicate 64 emptyParameter)
+      changed-array (replicate routeLines emptyParameter) (λ r p. parameterNew (routeLine s r .volume)) (ok .routeCount) (length-replicate routeLines emptyParameter)
       (λ r b. parameter-new-ok (routeLine s r .volume) (ok .routes r b .volume))
 
-  played-new-ok : PlayedOk s (replicate 64 0)
+  played-new-ok : PlayedOk s (replicate soundLines 0)
   played-new-ok =
       record {
-        places = length-replicate {A = ℕ} 64 0;
-        each = λ k b. subst (λ (n : ℕ). n ≤ soundLine s k .count) (sym (getD-replicate 64 k 0 0 (le-trans b (ok .soundCount)))) zero-le;
+        places = length-replicate {A = ℕ} soundLines 0;
+        each = λ k b. subst (λ (n : ℕ). n ≤ soundLine s k .count) (sym (getD-replicate soundLines k 0 0 (le-trans b (ok .soundCount)))) zero-le;
       }
 
 pub new-ok : (s : Scene) → SceneOk s → MixerOk s 0 (mixerNew s)

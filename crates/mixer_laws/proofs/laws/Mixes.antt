@@ -5,6 +5,7 @@ use native.Mathlib.Nat.{le-trans}
 use native.Mathlib.Omega.{arith}
 use lib.ListN.{length, getD, replicate, length-replicate}
 use lib.Ieee.{Float}
+use Rattle.limits.specs.Limits.{trackPlaces, sendLines, routeLines, soundLines}
 use Rattle.parameter.specs.declared.parameter.Parameter.{Parameter}
 use Rattle.parameter.specs.Range.{ParameterIn, valueRange}
 use Rattle.parameter.proofs.laws.Parameter.{value-admitted}
@@ -47,27 +48,27 @@ record LevelsOk (t : ChunkTrack) : Type 0 where
   fade : LevelInRange (t .fade)
 
 module _ (s : Scene) (c : ℕ) (m : Mixer) (ok : SceneOk s) (h : MixerOk s c m) where
-  tracks-ok : ArrayOk (λ t x. LevelsOk x) (s .«track_count») 32 absentTrackRow (chunkTracks (s .tracks) (s .«track_count») (m .tracks))
+  tracks-ok : ArrayOk (λ t x. LevelsOk x) (s .«track_count») trackPlaces absentTrackRow (chunkTracks (s .tracks) (s .«track_count») (m .tracks))
   unfolding chunkTracks chunkTrack
   tracks-ok =
-      changed-array (replicate 32 emptyTrackRow) (λ t x. chunkTrack (getD (s .tracks) t absentTrackLine) (stateOf (m .tracks) t)) (ok .trackCount) (length-replicate 32 emptyTrackRow)
+      changed-array (replicate trackPlaces emptyTrackRow) (λ t x. chunkTrack (getD (s .tracks) t absentTrackLine) (stateOf (m .tracks) t)) (ok .trackCount) (length-replicate trackPlaces emptyTrackRow)
       (λ t b. record { volume = level-ok (stateOf (m .tracks) t .volume) (h .tracks t b .volume); fade = level-ok (stateOf (m .tracks) t .playback .«volume_fade») (h .tracks t b .playback .fade) })
 
-  sends-ok : ArrayOk (λ i l. LevelInRange l) (s .«send_count») 8 absentLevel (chunkSends (s .«send_count») (m .sends))
+  sends-ok : ArrayOk (λ i l. LevelInRange l) (s .«send_count») sendLines absentLevel (chunkSends (s .«send_count») (m .sends))
   unfolding chunkSends
   sends-ok =
-      changed-array (replicate 8 emptyLevel) (λ i l. levelOf (parameterOf (m .sends) i)) (ok .sendCount) (length-replicate 8 emptyLevel) (λ i b. level-ok (parameterOf (m .sends) i) (h .sends i b))
+      changed-array (replicate sendLines emptyLevel) (λ i l. levelOf (parameterOf (m .sends) i)) (ok .sendCount) (length-replicate sendLines emptyLevel) (λ i b. level-ok (parameterOf (m .sends) i) (h .sends i b))
 
-  routes-ok : ArrayOk (λ r x. (1 ≤ x .send) × (x .send ≤ 8)) (s .«route_count») 64 absentRouteRow (chunkRoutes (s .routes) (s .«route_count») (m .routes))
+  routes-ok : ArrayOk (λ r x. (1 ≤ x .send) × (x .send ≤ sendLines)) (s .«route_count») routeLines absentRouteRow (chunkRoutes (s .routes) (s .«route_count») (m .routes))
   unfolding chunkRoutes chunkRoute
   routes-ok =
-      changed-array (replicate 64 emptyRouteRow) (λ r x. chunkRoute (getD (s .routes) r absentRouteLine) (parameterOf (m .routes) r)) (ok .routeCount) (length-replicate 64 emptyRouteRow)
+      changed-array (replicate routeLines emptyRouteRow) (λ r x. chunkRoute (getD (s .routes) r absentRouteLine) (parameterOf (m .routes) r)) (ok .routeCount) (length-replicate routeLines emptyRouteRow)
       (λ r b. (ok .routes r b .send .0, le-trans (ok .routes r b .send .1) (ok .sendCount)))
 
-  sounds-ok : (samples : List Float) → SamplesOk s samples → ArrayOk (λ k x. 2 * (x .start + x .left) ≤ length samples) (s .«sound_count») 64 absentSoundRow (chunkSounds (s .sounds) (s .«sound_count») (m .played))
+  sounds-ok : (samples : List Float) → SamplesOk s samples → ArrayOk (λ k x. 2 * (x .start + x .left) ≤ length samples) (s .«sound_count») soundLines absentSoundRow (chunkSounds (s .sounds) (s .«sound_count») (m .played))
   unfolding chunkSounds chunkSound
   sounds-ok samples there =
-      changed-array (replicate 64 emptySoundRow) (λ k x. chunkSound (soundLine s k) (getD (m .played) k 0)) (ok .soundCount) (length-replicate 64 emptySoundRow)
+      changed-array (replicate soundLines emptySoundRow) (λ k x. chunkSound (soundLine s k) (getD (m .played) k 0)) (ok .soundCount) (length-replicate soundLines emptySoundRow)
       (λ k b. whole (soundLine s k .first) (soundLine s k .count) (getD (m .played) k 0) (length samples) (h .played k b) (there .sounds k b))
 
 pub chunk-ok : (s : Scene) (samples : List Float) (c n : ℕ) (m : Mixer) → SceneOk s → SamplesOk s samples → MixerOk s c m → n ≤ 256 → ChunkOk (chunkOf s n m) samples

@@ -9,6 +9,7 @@ use lib.Dec.{T, ltb}
 use lib.ListN.{getD}
 use lib.Ieee.{Float}
 use borrow.Author.Tests.{ltb-false}
+use Rattle.limits.specs.Limits.{sendLines, routeLines}
 use Rattle.laws.proofs.laws.Loop.{upto-holds}
 use Rattle.laws.specs.Amount.{unsigned}
 use Rattle.clock.specs.declared.when_to_start.Clocks.{Clocks}
@@ -80,8 +81,8 @@ update-ok s c dt m ok h step positive =
     mixer-ok s (suc c) (mixerUpdate s dt m) (h .clockCount) (subst (λ (n : ℕ). ClocksWithin n clocks) (next-chunk c) (clocks-within (c * 1001) (m .clocks) dt (h .clocks) step))
     (update-in valueRange value-kept (m .«main_volume») dt clocks positive (h .main))
     (subst (λ (n : ℕ). TracksOk n (s .«track_count») tracks) (h .clockCount) (tracks-update-ok dt clocks positive (s .tracks) (s .«track_count») (m .tracks) before))
-    (sends-update-ok dt clocks positive (s .«send_count») 8 (m .sends) (ok .sendCount) (sends-of s c m h))
-    (routes-update-ok dt clocks positive (s .routes) (s .«route_count») 64 tracks (m .routes) (ok .routeCount) (routes-of s c m h)) (played-of s c m h)
+    (sends-update-ok dt clocks positive (s .«send_count») sendLines (m .sends) (ok .sendCount) (sends-of s c m h))
+    (routes-update-ok dt clocks positive (s .routes) (s .«route_count») routeLines tracks (m .routes) (ok .routeCount) (routes-of s c m h)) (played-of s c m h)
 
 pub can-move : (s : Scene) (c : ℕ) (dt : Float) (m : Mixer) → MixerOk s c m → c ≤ 2 ^ 20 → IsStep dt → CanMoveAll (m .clocks) dt
 can-move s c dt m h few step = clocks-can-move c (m .clocks) dt few (h .clocks) step

@@ -5,6 +5,7 @@ use Prim.Native.Nat.{ℕ, _-_}
 use native.Mathlib.Nat.{lt-of-le-of-lt}
 use lib.Dec.{lit<}
 use lib.ListN.{set}
+use Rattle.limits.specs.Limits.{sendLines, routeLines}
 use Rattle.laws.specs.Loop.{upto}
 use Rattle.laws.proofs.laws.Loop.{upto-holds}
 use Rattle.parameter.specs.declared.parameter.Parameter.{Parameter}
@@ -22,7 +23,8 @@ use Rattle.mixer.specs.declared.sub.Track.{Track}
 use Rattle.mixer.specs.declared.mixer.Mixer.{Mixer}
 use Rattle.mixer.specs.Sub.{trackSet, trackPause, trackResume}
 use Rattle.mixer.specs.Mixer.{stateOf, parameterOf}
-use Rattle.mixer.specs.Orders.{counts, tweenOf, resumeTweenOf, orderedBy, resumedBy, orderStep, resumeStep, mixerOrdered, mapTrack, mapSend, mapRoute, mapMain}
+use Rattle.order_lines.specs.Orders.{counts, tweenOf, resumeTweenOf}
+use Rattle.mixer.specs.Orders.{orderedBy, resumedBy, orderStep, resumeStep, mixerOrdered, mapTrack, mapSend, mapRoute, mapMain}
 use Rattle.mixer.specs.MixerOk.{TrackOk, MixerOk}
 use Rattle.mixer_laws.proofs.laws.Arrays.{set-array}
 use Rattle.mixer_laws.proofs.laws.States.{ParametersOk, tracks-of, sends-of, routes-of, played-of, mixer-ok}
@@ -53,14 +55,14 @@ module _ (s : Scene) (c : ℕ) (m : Mixer) (h : MixerOk s c m) where
   with-send-ok : (line : ℕ) (f : Parameter → Parameter) → Keeps f → MixerOk s c (mapSend line f m)
   unfolding mapSend
   with-send-ok line f keeps =
-      mixer-ok s c (mapSend line f m) (h .clockCount) (h .clocks) (h .main) (tracks-of s c m h) (parameter-set-ok (s .«send_count») 8 (m .sends) (line - 1) f (sends-of s c m h) keeps)
+      mixer-ok s c (mapSend line f m) (h .clockCount) (h .clocks) (h .main) (tracks-of s c m h) (parameter-set-ok (s .«send_count») sendLines (m .sends) (line - 1) f (sends-of s c m h) keeps)
       (routes-of s c m h) (played-of s c m h)
 
   with-route-ok : (line : ℕ) (f : Parameter → Parameter) → Keeps f → MixerOk s c (mapRoute line f m)
   unfolding mapRoute
   with-route-ok line f keeps =
       mixer-ok s c (mapRoute line f m) (h .clockCount) (h .clocks) (h .main) (tracks-of s c m h) (sends-of s c m h)
-      (parameter-set-ok (s .«route_count») 64 (m .routes) (line - 1) f (routes-of s c m h) keeps) (played-of s c m h)
+      (parameter-set-ok (s .«route_count») routeLines (m .routes) (line - 1) f (routes-of s c m h) keeps) (played-of s c m h)
 
 -- ---- one order
 

@@ -8,7 +8,7 @@ use Prim.Native.Nat.{ℕ, zero, suc}
 use lib.Dec.{eqb}
 use lib.ListN.{getD}
 use lib.Ieee.{Float, toBits, fits, le, neg, ofInt, round}
-use Rattle.laws.specs.Float.{posZero, one}
+use Rattle.laws.specs.Float.{AreF32, posZero, one}
 use Rattle.laws.specs.Loop.{upto, changed}
 use Rattle.laws.specs.Kept.{rank, keptOf}
 use Rattle.scene_tables.specs.Bytes.{every}
@@ -21,7 +21,6 @@ use Rattle.noninterference.specs.Silent.{silentVolume, names, muted, hel
 use Rattle.noninterference.specs.Alike.{same, sameLines, unplaced, sameTables, chosenLeft, framesLeft, sameBits, silentChoice, alike}
 use Rattle.noninterference.proofs.laws.SceneLeft.{SceneLeft}
 use Rattle.noninterference.proofs.laws.Silent.{quiet}
-use Rattle.noninterference.proofs.laws.SoundsLeft.{SamplesFit}
 use Rattle.noninterference.proofs.laws.FromAlike.{first-left}
 
 -- ---- lines of numbers not below 0, and volumes at most 0
@@ -140,7 +139,7 @@ pub accepted-example : (answerOfTables first firstSamples 4 ≡ 0) × (answerOfT
 unfolding answerOfTables asked linesOk rangesOk everyLine width inRange lineInRange orderFits volumeFits partFits millisFit powerFits referencesOk namesLine lineNamesLine indexNamesLine targetTable depthsOk depthsFit withinDepth parentOf routesOk routesFit newPair samePair soundsOk soundsFit soundFits samplesOk sampleOk lengthOk outputLength every le neg ofInt round
 accepted-example = (refl, refl)
 
-first-fits : SamplesFit firstSamples
+first-fits : AreF32 firstSamples
 unfolding fits
 first-fits zero h = tt
 first-fits (suc zero) h = tt
@@ -148,7 +147,7 @@ first-fits (suc (suc zero)) h = tt
 first-fits (suc (suc (suc zero))) h = tt
 first-fits (suc (suc (suc (suc i)))) h = tt
 
-second-fits : SamplesFit secondSamples
+second-fits : AreF32 secondSamples
 unfolding fits
 second-fits zero h = tt
 second-fits (suc zero) h = tt

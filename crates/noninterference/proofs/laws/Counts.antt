@@ -17,7 +17,7 @@ use Rattle.scene.specs.declared.scene.OrderLine.{OrderLine}
 use Rattle.scene.specs.declared.scene.OrderKind.{OrderKind}
 use Rattle.scene.specs.declared.scene.OrderKind.the-variants.{MainVolume, TrackVolume, SendVolume, RouteVolume, Pause, Resume}
 use Rattle.accepted.specs.Lines.{orderLine}
-use Rattle.mixer.specs.Orders.{kindNumber, foundLater, overridden, counts, sameKindAndIndex}
+use Rattle.order_lines.specs.Orders.{kindNumber, foundLater, overridden, counts, sameKindAndIndex}
 use Rattle.noninterference.proofs.laws.Lines.{both-ways, same-test}
 use Rattle.noninterference.proofs.laws.SceneLeft.{keptRouteLine, keptIndex, keptOrder, newIndex, newOrderLine, SceneLeft}
 

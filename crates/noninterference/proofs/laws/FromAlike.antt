@@ -9,6 +9,7 @@ use native.Mathlib.Nat.{lt-trans}
 use lib.Dec.{T, eqb}
 use lib.ListN.{length, getD}
 use lib.Ieee.{Float}
+use Rattle.laws.specs.Float.{AreF32}
 use Rattle.laws.specs.Kept.{rank}
 use Rattle.laws.proofs.laws.Kept.{rank-cong, rank-lt, keptOf-at}
 use Rattle.scene_tables.specs.Tables.{natural, tracks, routes, sounds, orders}
@@ -28,7 +29,7 @@ use Rattle.noninterference.proofs.laws.LeftLines.{differ, counted-field
 use Rattle.noninterference.proofs.laws.SceneLines.{sound-at, sound-track-at}
 use Rattle.noninterference.proofs.laws.Silent.{quiet, silent-track, quiet-below, quiet-unrouted}
 use Rattle.noninterference.proofs.laws.KeptLines.{track-new, route-new, order-new, track-kept, routes-kept, sounds-kept, order-kept}
-use Rattle.noninterference.proofs.laws.SoundsLeft.{unplaced-field, unplaced-length, soundsLeft, sound-row, played, played-at, SamplesFit, frame-same}
+use Rattle.noninterference.proofs.laws.SoundsLeft.{unplaced-field, unplaced-length, soundsLeft, sound-row, played, played-at, frame-same}
 
 -- ---- the lines of the scene left
 
@@ -96,7 +97,7 @@ module _ (ts ts' : Tables) (chosen chosen' : Choice) (tables : SameTables (leftT
     unfolding soundOf
     sound-count = ap (λ (x : SoundLine). x .count) sound-new ∙ count-same ∙ ap (λ (x : SoundLine). x .count) (sym (sound-at ts k h))
 
-    module _ (samples samples' : List Float) (fit : SamplesFit samples) (fit' : SamplesFit samples')
+    module _ (samples samples' : List Float) (fit : AreF32 samples) (fit' : AreF32 samples')
         (frames : same (same sameBits) (framesLeft ts chosen samples) (framesLeft ts' chosen' samples') ≡ true) where
       abbrev row' : List ℕ
       row' = getD (soundsLeft ts' chosen') newPlace []
@@ -124,7 +125,7 @@ module _ (ts ts' : Tables) (chosen chosen' : Choice) (tables : SameTables (leftT
 -- ---- the relation
 
 -- What is left of one scene, with the samples of another whose tables and frames left are the same. Nothing else is asked of the other.
-pub left-of : (ts ts' : Tables) (samples samples' : List Float) (output : ℕ) (chosen chosen' : Choice) → TablesPass ts samples output → SamplesFit samples → SamplesFit samples'
+pub left-of : (ts ts' : Tables) (samples samples' : List Float) (output : ℕ) (chosen chosen' : Choice) → TablesPass ts samples output → AreF32 samples → AreF32 samples'
     → sameTables (leftTables ts chosen) (leftTables ts' chosen') ≡ true
     → same (same sameBits) (framesLeft ts chosen samples) (framesLeft ts' chosen' samples') ≡ true
     → silentChoice ts chosen ≡ true
@@ -176,7 +177,7 @@ left-of ts ts' samples samples' output chosen chosen' passed fit fit' tables fra
     }
 
 -- a scene, and what is left of itself
-pub left-of-self : (ts : Tables) (samples : List Float) (output : ℕ) (chosen : Choice) → TablesPass ts samples output → SamplesFit samples → silentChoice ts chosen ≡ true
+pub left-of-self : (ts : Tables) (samples : List Float) (output : ℕ) (chosen : Choice) → TablesPass ts samples output → AreF32 samples → silentChoice ts chosen ≡ true
     → SceneLeft (keptTracks ts chosen) chosen (quiet ts chosen) (sceneOf ts) samples (sceneOf (leftTables ts chosen)) samples
 left-of-self ts samples output chosen passed fit silent =
     left-of ts ts samples samples output chosen chosen passed fit fit (tables-self (leftTables ts chosen)) (frames-self ts chosen samples) silent
@@ -184,7 +185,7 @@ left-of-self ts samples output chosen passed fit silent =
 -- ---- two scenes that are alike have one scene left
 
 module _ (ts₁ : Tables) (samples₁ : List Float) (chosen₁ : Choice) (ts₂ : Tables) (samples₂ : List Float) (chosen₂ : Choice)
-    (h : alike ts₁ samples₁ chosen₁ ts₂ samples₂ chosen₂ ≡ true) (fit₂ : SamplesFit samples₂) where
+    (h : alike ts₁ samples₁ chosen₁ ts₂ samples₂ chosen₂ ≡ true) (fit₂ : AreF32 samples₂) where
   tests : (sameTables (leftTables ts₁ chosen₁) (leftTables ts₂ chosen₂) ≡ true)
       × (same (same sameBits) (framesLeft ts₁ chosen₁ samples₁) (framesLeft ts₂ chosen₂ samples₂) ≡ true)
       × (silentChoice ts₁ chosen₁ ≡ true)
@@ -197,7 +198,7 @@ module _ (ts₁ : Tables) (samples₁ : List Float) (chosen₁ : Choice) (ts₂ 
       let rest = and-right frames _ (and-right chosen _ (and-right tables _ h)) in
       (and-left tables _ h, and-left frames _ (and-right chosen _ (and-right tables _ h)), and-left (silentChoice ts₁ chosen₁) _ rest, and-right (silentChoice ts₁ chosen₁) _ rest)
 
-  pub first-left : (output : ℕ) → TablesPass ts₁ samples₁ output → SamplesFit samples₁
+  pub first-left : (output : ℕ) → TablesPass ts₁ samples₁ output → AreF32 samples₁
       → SceneLeft (keptTracks ts₁ chosen₁) chosen₁ (quiet ts₁ chosen₁) (sceneOf ts₁) samples₁ (sceneOf (leftTables ts₂ chosen₂)) samples₂
   first-left output passed fit = left-of ts₁ ts₂ samples₁ samples₂ output chosen₁ chosen₂ passed fit fit₂ (tests .0) (tests .1) (tests .2)
 

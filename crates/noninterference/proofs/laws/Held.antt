@@ -25,7 +25,8 @@ use Rattle.mixer.specs.declared.sub.Track.{Track}
 use Rattle.mixer.specs.declared.mixer.Mixer.{Mixer}
 use Rattle.mixer.specs.Sub.{trackSet, trackPause}
 use Rattle.mixer.specs.Mixer.{stateOf, absentTrack}
-use Rattle.mixer.specs.Orders.{kindNumber, foundLater, overridden, counts, tweenOf, orderedBy, resumedBy, mixerOrdered, mapTrack, mapSend, mapRoute, mapMain, sameKindAndIndex}
+use Rattle.order_lines.specs.Orders.{kindNumber, foundLater, overridden, counts, tweenOf, sameKindAndIndex}
+use Rattle.mixer.specs.Orders.{orderedBy, resumedBy, mixerOrdered, mapTrack, mapSend, mapRoute, mapMain}
 use Rattle.noninterference.proofs.laws.SceneLeft.{HeldTrack}
 use Rattle.noninterference.proofs.laws.Arrays.{line-of}
 use Rattle.noninterference.proofs.laws.Counts.{alike-kind, alike-index}

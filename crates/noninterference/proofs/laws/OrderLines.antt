@@ -12,7 +12,7 @@ use Rattle.scene.specs.declared.scene.OrderKind.{OrderKind}
 use Rattle.scene.specs.declared.scene.OrderKind.the-variants.{MainVolume, TrackVolume, SendVolume, RouteVolume, Pause, Resume}
 use Rattle.scene_questions.specs.Questions.{Tables, field, indexNamesLine}
 use Rattle.scene.specs.Scene.{kindOf, orderOf, sceneOf}
-use Rattle.mixer.specs.Orders.{kindNumber}
+use Rattle.order_lines.specs.Orders.{kindNumber}
 use Rattle.noninterference.specs.Removed.{newLine, Choice, removedTrack, removedRoute, namesRemoved, keptTracks, keptRoutes, renumbered, renumberedOrder}
 use Rattle.noninterference.proofs.laws.Lines.{newLine-zero, keptLine}
 use Rattle.noninterference.proofs.laws.SceneLeft.{keptRouteLine, keptIndex, newIndex, newOrderLine}

@@ -21,7 +21,8 @@ use Rattle.mixer.specs.declared.sub.Track.{Track}
 use Rattle.mixer.specs.declared.mixer.Mixer.{Mixer}
 use Rattle.mixer.specs.Sub.{trackSet, trackPause, trackResume}
 use Rattle.mixer.specs.Mixer.{absentParameter, stateOf, parameterOf, absentTrack}
-use Rattle.mixer.specs.Orders.{counts, tweenOf, resumeTweenOf, orderedBy, resumedBy, orderStep, resumeStep, mixerOrdered, mapTrack, mapSend, mapRoute, mapMain}
+use Rattle.order_lines.specs.Orders.{counts, tweenOf, resumeTweenOf}
+use Rattle.mixer.specs.Orders.{orderedBy, resumedBy, orderStep, resumeStep, mixerOrdered, mapTrack, mapSend, mapRoute, mapMain}
 use Rattle.noninterference.specs.Removed.{newLine}
 use Rattle.noninterference.proofs.laws.Lines.{keptLine}
 use Rattle.noninterference.proofs.laws.SceneLeft.{keptRouteLine, keptIndex, keptOrder, newIndex, SceneLeft}

@@ -22,7 +22,7 @@ use Rattle.scene.specs.declared.scene.OrderLine.{OrderLine}
 use Rattle.scene.specs.declared.scene.OrderKind.{OrderKind}
 use Rattle.scene.specs.declared.scene.OrderKind.the-variants.{TrackVolume, RouteVolume, Pause, Resume}
 use Rattle.accepted.specs.Lines.{trackLine, routeLine, soundLine, orderLine}
-use Rattle.mixer.specs.Orders.{kindNumber}
+use Rattle.order_lines.specs.Orders.{kindNumber}
 use Rattle.frame.specs.Frame.{frameAt}
 use Rattle.noninterference.specs.Removed.{newLine}
 use Rattle.noninterference.proofs.laws.Lines.{keptLine, openLine}

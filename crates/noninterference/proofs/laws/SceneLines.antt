@@ -19,7 +19,7 @@ use Rattle.scene_questions.proofs.laws.Loops.{and-same}
 use Rattle.accepted.specs.Lines.{trackLine, routeLine, soundLine, orderLine, absentTrackLine, absentRouteLine, absentSoundLine, absentOrderLine}
 use Rattle.accepted.proofs.laws.Passed.{TablesPass}
 use Rattle.accepted.proofs.laws.Line.{line-ok}
-use Rattle.mixer.specs.Orders.{kindNumber}
+use Rattle.order_lines.specs.Orders.{kindNumber}
 use Rattle.noninterference.specs.Silent.{names}
 use Rattle.noninterference.proofs.laws.Inside.{Early}
 use Rattle.noninterference.proofs.laws.LeftLines.{place, place-number}

@@ -27,7 +27,7 @@ use Rattle.scene_questions.proofs.laws.Loops.{and-left, and-right, and-same, ev
 use Rattle.accepted.specs.Lines.{trackLine, routeLine, orderLine}
 use Rattle.accepted.proofs.laws.Passed.{TablesPass}
 use Rattle.accepted.proofs.laws.Line.{line-ok}
-use Rattle.mixer.specs.Orders.{kindNumber}
+use Rattle.order_lines.specs.Orders.{kindNumber}
 use Rattle.noninterference.specs.Removed.{Choice, namesRemoved, removedTrack}
 use Rattle.noninterference.specs.Silent.{silentVolume, names, muted, held, isHolding, pausesOrResumes}
 use Rattle.noninterference.specs.Alike.{silentChoice}

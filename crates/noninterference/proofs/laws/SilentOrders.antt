@@ -20,7 +20,8 @@ use Rattle.mixer.specs.declared.sub.Track.{Track}
 use Rattle.mixer.specs.declared.mixer.Mixer.{Mixer}
 use Rattle.mixer.specs.Sub.{trackSet, trackPause, trackResume}
 use Rattle.mixer.specs.Mixer.{stateOf, absentTrack}
-use Rattle.mixer.specs.Orders.{overridden, counts, tweenOf, resumeTweenOf, orderedBy, resumedBy, mixerOrdered, mapTrack, mapSend, mapRoute, mapMain}
+use Rattle.order_lines.specs.Orders.{overridden, counts, tweenOf, resumeTweenOf}
+use Rattle.mixer.specs.Orders.{orderedBy, resumedBy, mixerOrdered, mapTrack, mapSend, mapRoute, mapMain}
 use Rattle.noninterference.proofs.laws.SceneLeft.{MutedTrack}
 use Rattle.noninterference.proofs.laws.Arrays.{set-holds}
 use Rattle.noninterference.proofs.laws.Orders.{Acts, acted, passes}

@@ -9,6 +9,7 @@ use lib.Dec.{T, ltb, ltb→lt, nltb→le}
 use lib.ListN.{length, getD, set, take, drop, length-map, List·getD-map, List·getD-eq-default}
 use lib.Seq.{getD-take, getD-drop, getD-set-other}
 use lib.Ieee.{Float, nan, binary32, fits}
+use Rattle.laws.specs.Float.{AreF32}
 use Rattle.laws.proofs.laws.Kept.{kept-or-removed}
 use Rattle.laws.specs.Kept.{keptOf}
 use Rattle.scene_tables.specs.Tables.{natural, sounds}
@@ -62,12 +63,8 @@ pub played-at : (ts : Tables) (chosen : Choice) (samples : List Float) (r : ℕ)
 unfolding framesLeft
 played-at ts chosen samples r = List·getD-map (played samples) (soundsLeft ts chosen) r []
 
--- every sample is an f32 value
-abbrev pub SamplesFit : List Float → Type 0
-SamplesFit samples = (i : ℕ) → i < length samples → T (fits binary32 (getD samples i nan))
-
 -- also past the end, where a NaN stands
-fits-anywhere : (samples : List Float) → SamplesFit samples → (i : ℕ) → T (fits binary32 (getD samples i nan))
+fits-anywhere : (samples : List Float) → AreF32 samples → (i : ℕ) → T (fits binary32 (getD samples i nan))
 fits-anywhere samples h i = go (kept-or-removed (ltb i (length samples)))
   where
     go : T (ltb i (length samples)) ⊎ T (not (ltb i (length samples))) → T (fits binary32 (getD samples i nan))
@@ -81,7 +78,7 @@ in-frame : (i n : ℕ) → i < n → (2 * i < 2 * n) × (2 * i + 1 < 2 * n)
 in-frame i n h = (omega arith, omega arith)
 
 -- frames whose samples have the same bits
-module _ (samples samples' : List Float) (fit : SamplesFit samples) (fit' : SamplesFit samples') (row row' : List ℕ) (counts : natural (field row' 2) ≡ natural (field row 2))
+module _ (samples samples' : List Float) (fit : AreF32 samples) (fit' : AreF32 samples') (row row' : List ℕ) (counts : natural (field row' 2) ≡ natural (field row 2))
     (bits : same sameBits (played samples row) (played samples' row') ≡ true) where
   sample-same : (n : ℕ) → n < 2 * natural (field row 2) → getD samples' (2 * natural (field row' 1) + n) nan ≡ getD samples (2 * natural (field row 1) + n) nan
   sample-same n h =

@@ -17,7 +17,8 @@ use Rattle.noninterference.specs.Removed.{Choice}
 use Rattle.noninterference.specs.Alike.{alike}
 use Rattle.noninterference.proofs.laws.FromAlike.{first-left, second-left}
 use Rattle.noninterference.proofs.laws.Show.{rendered-same}
-use Rattle.room_desk.specs.Render.{outputOf, AreF32}
+use Rattle.room_desk.specs.Render.{outputOf}
+use Rattle.laws.specs.Float.{AreF32}
 use Rattle.room_desk.proofs.laws.Run.{chunk-in-ok, routes-in}
 
 -- an accepted scene's output is its render

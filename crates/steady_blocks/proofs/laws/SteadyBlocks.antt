@@ -21,7 +21,8 @@ use Rattle.accepted.specs.Lines.{soundLine, orderLine}
 use Rattle.accepted.specs.SceneOk.{SceneOk}
 use Rattle.chunk.specs.declared.chunk.Chunk.{Chunk}
 use Rattle.mixer.specs.declared.mixer.Mixer.{Mixer}
-use Rattle.mixer.specs.Orders.{counts, overridden, orderedBy, resumedBy, orderStep, resumeStep, mixerOrdered}
+use Rattle.order_lines.specs.Orders.{counts, overridden}
+use Rattle.mixer.specs.Orders.{orderedBy, resumedBy, orderStep, resumeStep, mixerOrdered}
 use Rattle.mixer_chunk.specs.ChunkOf.{chunkOf}
 use Rattle.mixer.specs.MixerOk.{MixerOk}
 use Rattle.renderer.specs.Renderer.{chunkCount, chunksDone, blockDone, mixerAt}

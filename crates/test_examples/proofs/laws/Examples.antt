@@ -30,7 +30,8 @@ use Rattle.track.specs.Send.{sendFrame, levelScaled, addedSend}
 use Rattle.track.specs.Mix.{sendInput, tracksFrame, mixedFrame, tracksSet, withAllSends, withSendTracks, mixedSet}
 use Rattle.mixer.specs.Sub.{trackNew, trackMoved, trackStill, trackUpdate, trackSet, trackPause, trackResume}
 use Rattle.mixer.specs.Mixer.{emptyTrack, emptyParameter, emptyClock, clocksNew, tracksNew, sendsNew, routesNew, mixerNew, liveAbove, trackStep, tracksUpdate, updatedWhere, routeUpdate, routesUpdate, sendsUpdate, mixerUpdate}
-use Rattle.mixer.specs.Orders.{kindNumber, foundLater, overridden, counts, tweenOf, resumeTweenOf, mapSend as withSend-mixer, orderedBy, resumedBy, orderStep, resumeStep, mixerOrdered, sameKindAndIndex, mapTrack, mapRoute, mapMain}
+use Rattle.order_lines.specs.Orders.{kindNumber, foundLater, overridden, counts, tweenOf, resumeTweenOf, sameKindAndIndex}
+use Rattle.mixer.specs.Orders.{mapSend as withSend-mixer, orderedBy, resumedBy, orderStep, resumeStep, mixerOrdered, mapTrack, mapRoute, mapMain}
 use Rattle.mixer.specs.Sounds.{playedMore, playedAfter, playedOn, soundsPlayed}
 use Rattle.mixer_chunk.specs.ChunkOf.{levelOf, chunkTrack, chunkRoute, chunkSound, emptyLevel, chunkTracks, chunkSends, chunkRoutes, chunkSounds, chunkOf, emptyTrackRow, emptyRouteRow, emptySoundRow}
 use Rattle.renderer.specs.Renderer.{chunkCount, chunkFrames, inChunk, chunkDone, chunksDone, blockDone, mixerAt, channelAt, channelsOf, chunkSamples, blockSamples, rendered}

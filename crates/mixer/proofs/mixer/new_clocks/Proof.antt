@@ -15,7 +15,7 @@ use Rattle.clock.specs.Clock.{newClock}
 use Rattle.scene.specs.declared.scene.ClockLine.{ClockLine}
 use Rattle.clock.specs.WhenToStart.{absentClock}
 use Rattle.mixer.specs.Mixer.{emptyClock, clocksNew}
-use Rattle.mixer.proofs.laws.Turns.{scaled, next-fits, falls, turned, ended}
+use Rattle.laws.proofs.laws.Turns.{scaled, next-fits, falls, turned, ended}
 use Rattle.mixer.proofs.mixer.new_clocks.Statement.{statement}
 use Rattle.accepted.specs.Lines.{absentClockLine}
 use Rattle.mixer.proofs.mixer.new_clocks.Tie as tie

@@ -13,7 +13,7 @@ use Rattle.parameter.specs.declared.parameter.Parameter.{Parameter}
 use Rattle.parameter.specs.Parameter.{parameterNew}
 use Rattle.scene.specs.declared.scene.RouteLine.{RouteLine}
 use Rattle.mixer.specs.Mixer.{emptyParameter, absentParameter, routesNew}
-use Rattle.mixer.proofs.laws.Turns.{scaled, next-fits, falls, turned, ended}
+use Rattle.laws.proofs.laws.Turns.{scaled, next-fits, falls, turned, ended}
 use Rattle.mixer.proofs.mixer.new_routes.Statement.{statement}
 use Rattle.accepted.specs.Lines.{absentRouteLine}
 use Rattle.mixer.proofs.mixer.new_routes.Tie as tie

@@ -13,7 +13,7 @@ use Rattle.parameter.specs.declared.parameter.Parameter.{Parameter}
 use Rattle.parameter.specs.Parameter.{parameterNew}
 use Rattle.scene.specs.declared.scene.SendLine.{SendLine}
 use Rattle.mixer.specs.Mixer.{emptyParameter, absentParameter, sendsNew}
-use Rattle.mixer.proofs.laws.Turns.{scaled, next-fits, falls, turned, ended}
+use Rattle.laws.proofs.laws.Turns.{scaled, next-fits, falls, turned, ended}
 use Rattle.mixer.proofs.mixer.new_sends.Statement.{statement}
 use Rattle.accepted.specs.Lines.{absentSendLine}
 use Rattle.mixer.proofs.mixer.new_sends.Tie as tie

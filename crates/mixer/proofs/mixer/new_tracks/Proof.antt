@@ -13,7 +13,7 @@ use Rattle.scene.specs.declared.scene.TrackLine.{TrackLine}
 use Rattle.mixer.specs.Mixer.{absentTrack, emptyTrack, tracksNew}
 use Rattle.mixer.specs.declared.sub.Track.{Track}
 use Rattle.mixer.specs.Sub.{trackNew}
-use Rattle.mixer.proofs.laws.Turns.{scaled, next-fits, falls, turned, ended}
+use Rattle.laws.proofs.laws.Turns.{scaled, next-fits, falls, turned, ended}
 use Rattle.mixer.proofs.mixer.new_tracks.Statement.{statement}
 use Rattle.accepted.specs.Lines.{absentTrackLine}
 use Rattle.mixer.proofs.mixer.new_tracks.Tie as tie

@@ -7,7 +7,8 @@ use lib.Dec.{lit<}
 use Rattle.laws.specs.Loop.{changed}
 use Rattle.laws.proofs.laws.Loop.{changed-zero}
 use Rattle.mixer.specs.Mixer.{absentParameter, routeUpdate, routesUpdate}
-use Rattle.mixer.proofs.laws.Turns.{scaled, next-fits, falls, line-within, turned, ended}
+use Rattle.laws.proofs.laws.Turns.{scaled, next-fits, falls, turned, ended}
+use Rattle.mixer.proofs.laws.Turns.{line-within}
 use Rattle.mixer.proofs.mixer.update_routes.Statement.{statement}
 use Rattle.mixer.proofs.mixer.update_routes.Tie as tie
 

@@ -12,7 +12,7 @@ use Rattle.parameter.specs.declared.parameter.Parameter.{Parameter}
 use Rattle.parameter.specs.declared.parameter.ParameterUpdate.{ParameterUpdate}
 use Rattle.parameter.specs.Parameter.{parameterUpdate}
 use Rattle.mixer.specs.Mixer.{absentParameter, sendsUpdate}
-use Rattle.mixer.proofs.laws.Turns.{scaled, next-fits, falls, turned, ended}
+use Rattle.laws.proofs.laws.Turns.{scaled, next-fits, falls, turned, ended}
 use Rattle.mixer.proofs.mixer.update_sends.Statement.{statement}
 use Rattle.mixer.proofs.mixer.update_sends.Tie as tie
 

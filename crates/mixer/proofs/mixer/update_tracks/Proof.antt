@@ -12,7 +12,8 @@ use Rattle.laws.proofs.laws.Loop.{upto-zero, upto-turn}
 use Rattle.mixer.specs.declared.sub.Track.{Track}
 use Rattle.mixer.specs.Sub.{trackUpdate}
 use Rattle.mixer.specs.Mixer.{stateOf, liveAt, liveAbove, trackStep, tracksUpdate}
-use Rattle.mixer.proofs.laws.Turns.{scaled, next-fits, falls, place-within, upto-ended}
+use Rattle.laws.proofs.laws.Turns.{scaled, next-fits, falls, upto-ended}
+use Rattle.mixer.proofs.laws.Turns.{place-within}
 use Rattle.mixer.proofs.mixer.update_tracks.Statement.{statement}
 use Rattle.accepted.specs.Lines.{absentTrackLine}
 use Rattle.mixer.proofs.mixer.update_tracks.Tie as tie

@@ -13,7 +13,8 @@ use Rattle.scene.specs.declared.scene.SoundLine.{SoundLine}
 use Rattle.mixer.specs.declared.sub.Track.{Track}
 use Rattle.mixer.specs.Mixer.{stateOf, liveAt, liveAbove}
 use Rattle.mixer.specs.Sounds.{playedWhere, playedAfter, playedOn}
-use Rattle.mixer.proofs.laws.Turns.{scaled, next-fits, falls, place-within, turned-old, ended}
+use Rattle.laws.proofs.laws.Turns.{scaled, next-fits, falls, turned-old, ended}
+use Rattle.mixer.proofs.laws.Turns.{place-within}
 use Rattle.mixer.proofs.sounds.played_on.Statement.{statement}
 use Rattle.accepted.specs.Lines.{absentSoundLine}
 use Rattle.mixer.proofs.sounds.played_on.Tie as tie

@@ -14,7 +14,7 @@ use Rattle.scene.specs.declared.scene.RouteLine.{RouteLine}
 use Rattle.chunk.specs.declared.chunk.ChunkRoute.{ChunkRoute}
 use Rattle.mixer.specs.Mixer.{parameterOf}
 use Rattle.mixer_chunk.specs.ChunkOf.{chunkRoute, chunkRoutes, emptyRouteRow}
-use Rattle.mixer.proofs.laws.Turns.{scaled, next-fits, falls, turned, ended}
+use Rattle.laws.proofs.laws.Turns.{scaled, next-fits, falls, turned, ended}
 use Rattle.mixer_chunk.proofs.tables.chunk_routes.Statement.{statement}
 use Rattle.accepted.specs.Lines.{absentRouteLine}
 use Rattle.chunk.specs.Chunk.{absentRouteRow}

@@ -12,7 +12,7 @@ use Rattle.parameter.specs.declared.parameter.Parameter.{Parameter}
 use Rattle.chunk.specs.declared.chunk.Level.{Level}
 use Rattle.mixer.specs.Mixer.{parameterOf}
 use Rattle.mixer_chunk.specs.ChunkOf.{levelOf, emptyLevel, chunkSends}
-use Rattle.mixer.proofs.laws.Turns.{scaled, next-fits, falls, turned, ended}
+use Rattle.laws.proofs.laws.Turns.{scaled, next-fits, falls, turned, ended}
 use Rattle.mixer_chunk.proofs.tables.chunk_sends.Statement.{statement}
 use Rattle.chunk.specs.Chunk.{absentLevel}
 use Rattle.mixer_chunk.proofs.tables.chunk_sends.Tie as tie

@@ -11,7 +11,7 @@ use Rattle.laws.proofs.laws.Loop.{changed-zero}
 use Rattle.scene.specs.declared.scene.SoundLine.{SoundLine}
 use Rattle.chunk.specs.declared.chunk.ChunkSound.{ChunkSound}
 use Rattle.mixer_chunk.specs.ChunkOf.{chunkSound, chunkSounds, emptySoundRow}
-use Rattle.mixer.proofs.laws.Turns.{scaled, next-fits, falls, turned, ended}
+use Rattle.laws.proofs.laws.Turns.{scaled, next-fits, falls, turned, ended}
 use Rattle.mixer_chunk.proofs.tables.chunk_sounds.Statement.{statement}
 use Rattle.accepted.specs.Lines.{absentSoundLine}
 use Rattle.chunk.specs.Chunk.{absentSoundRow}

@@ -15,7 +15,7 @@ use Rattle.chunk.specs.declared.chunk.ChunkTrack.{ChunkTrack}
 use Rattle.mixer.specs.declared.sub.Track.{Track}
 use Rattle.mixer.specs.Mixer.{stateOf}
 use Rattle.mixer_chunk.specs.ChunkOf.{chunkTrack, chunkTracks, emptyTrackRow}
-use Rattle.mixer.proofs.laws.Turns.{scaled, next-fits, falls, turned, ended}
+use Rattle.laws.proofs.laws.Turns.{scaled, next-fits, falls, turned, ended}
 use Rattle.mixer_chunk.proofs.tables.chunk_tracks.Statement.{statement}
 use Rattle.accepted.specs.Lines.{absentTrackLine}
 use Rattle.chunk.specs.Chunk.{absentTrackRow}

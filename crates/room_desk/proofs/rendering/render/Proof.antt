@@ -9,7 +9,8 @@ use Rattle.scene.specs.declared.scene.Scene.{Scene}
 use Rattle.accepted.specs.SceneOk.{SceneOk, SamplesOk}
 use Rattle.accepted.proofs.laws.Accepted.{accepted-ok, accepted-samples, accepted-length}
 use Rattle.renderer.specs.Renderer.{rendered}
-use Rattle.room_desk.specs.Render.{outputOf, AreF32}
+use Rattle.room_desk.specs.Render.{outputOf}
+use Rattle.laws.specs.Float.{AreF32}
 use Rattle.scene_reader.proofs.laws.Answer.{answered-number, answered-scene}
 use Rattle.room_desk.proofs.laws.Render.{output-refused}
 use Rattle.room_desk.proofs.laws.Silence.{output-accepted, silence}

@@ -5,8 +5,7 @@ use native.Mathlib.Omega.{arith}
 use lib.ListN.{getD}
 use borrow.Author.Needs.{needs}
 use Rattle.laws.specs.Loop.{changed}
-use Rattle.laws.proofs.laws.Loop.{changed-zero, changed-end}
-use Rattle.clock.proofs.laws.ClocksMove.{changed-turn-any}
+use Rattle.laws.proofs.laws.Loop.{changed-zero, changed-end, changed-turn-any}
 use Rattle.accepted.specs.Lines.{soundLine, absentSoundLine}
 use Rattle.steady_blocks.specs.SteadyBlock.{playedBy}
 use Rattle.steady_blocks.proofs.run.played_by.Statement.{statement}

@@ -8,12 +8,11 @@ use mathlib.Core.List.{List}
 use lib.ListN.{getD, set}
 use lib.Ieee.{Float}
 use Rattle.laws.specs.Loop.{changed}
-use Rattle.laws.proofs.laws.Loop.{changed-zero, changed-here, changed-end}
+use Rattle.laws.proofs.laws.Loop.{changed-zero, changed-here, changed-end, changed-turn-any}
 use Rattle.clock.specs.declared.clock.Clock.{Clock}
 use Rattle.clock.specs.declared.when_to_start.Clocks.{Clocks}
 use Rattle.clock.specs.Clock.{updated, CanMove}
 use Rattle.clock.specs.WhenToStart.{clocksUpdated, CanMoveAll, absentClock}
-use Rattle.clock.proofs.laws.ClocksMove.{changed-turn-any}
 use Rattle.clock.proofs.when_to_start.Clocks.update.Statement.{statement}
 use Rattle.clock.proofs.when_to_start.Clocks.update.Tie as tie
 

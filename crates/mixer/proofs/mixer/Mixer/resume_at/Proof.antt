@@ -4,7 +4,7 @@ use native.Mathlib.Nat.{lt-of-lt-of-le}
 use lib.Dec.{lit<}
 use Rattle.laws.proofs.laws.Choice.{cond-true, cond-false}
 use Rattle.mixer.specs.Orders.{resumeStep}
-use Rattle.mixer.proofs.laws.Turns.{scaled}
+use Rattle.laws.proofs.laws.Turns.{scaled}
 use Rattle.mixer.proofs.mixer.Mixer.resume_at.Statement.{statement}
 use Rattle.mixer.proofs.mixer.Mixer.resume_at.Tie as tie
 

@@ -1,9 +1,9 @@
 -- `orders::resume_tween_of` meets its contract. Assumes nothing.
 use mathlib.Core.Path.{refl}
 use borrow.Author.Needs.{needs}
-use Rattle.mixer.specs.Orders.{resumeTweenOf}
-use Rattle.mixer.proofs.orders.resume_tween_of.Statement.{statement}
-use Rattle.mixer.proofs.orders.resume_tween_of.Tie as tie
+use Rattle.order_lines.specs.Orders.{resumeTweenOf}
+use Rattle.order_lines.proofs.orders.resume_tween_of.Statement.{statement}
+use Rattle.order_lines.proofs.orders.resume_tween_of.Tie as tie
 
 cast-t4 : tie.Need-cast-t4
 cast-t4 c = search needs

@@ -1,9 +1,9 @@
 -- `orders::kind_number` meets its contract: each arm is the definition's. Assumes nothing.
 use mathlib.Core.Path.{sym, ap}
 use borrow.Author.Needs.{needs}
-use Rattle.mixer.specs.Orders.{kindNumber}
-use Rattle.mixer.proofs.orders.kind_number.Statement.{statement}
-use Rattle.mixer.proofs.orders.kind_number.Tie as tie
+use Rattle.order_lines.specs.Orders.{kindNumber}
+use Rattle.order_lines.proofs.orders.kind_number.Statement.{statement}
+use Rattle.order_lines.proofs.orders.kind_number.Tie as tie
 
 enum-told : tie.Need-enum-told
 enum-told c = search needs

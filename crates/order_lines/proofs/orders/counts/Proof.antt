@@ -4,11 +4,11 @@ use mathlib.Core.Bool.{not}
 use native.Mathlib.Nat.{lt-of-lt-of-le}
 use lib.Dec.{lit<}
 use borrow.Author.Tests.{eq-eqb, ne-eqb}
-use Rattle.mixer.specs.Orders.{counts}
-use Rattle.mixer.proofs.laws.Turns.{scaled}
-use Rattle.mixer.proofs.laws.Ordered.{first-no, first-yes}
-use Rattle.mixer.proofs.orders.counts.Statement.{statement}
-use Rattle.mixer.proofs.orders.counts.Tie as tie
+use Rattle.order_lines.specs.Orders.{counts}
+use Rattle.laws.proofs.laws.Turns.{scaled}
+use Rattle.laws.proofs.laws.Choice.{first-no, first-yes}
+use Rattle.order_lines.proofs.orders.counts.Statement.{statement}
+use Rattle.order_lines.proofs.orders.counts.Tie as tie
 
 mul-order : tie.Need-mul-order
 mul-order c = record { fits = scaled _ (c .pre .1) (c .pre .0) (lit< tt) }

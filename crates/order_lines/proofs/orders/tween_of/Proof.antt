@@ -1,9 +1,9 @@
 -- `orders::tween_of` meets its contract. Assumes nothing.
 use mathlib.Core.Path.{refl}
 use borrow.Author.Needs.{needs}
-use Rattle.mixer.specs.Orders.{tweenOf}
-use Rattle.mixer.proofs.orders.tween_of.Statement.{statement}
-use Rattle.mixer.proofs.orders.tween_of.Tie as tie
+use Rattle.order_lines.specs.Orders.{tweenOf}
+use Rattle.order_lines.proofs.orders.tween_of.Statement.{statement}
+use Rattle.order_lines.proofs.orders.tween_of.Tie as tie
 
 cast-t4 : tie.Need-cast-t4
 cast-t4 c = search needs

@@ -10,11 +10,11 @@ use lib.ListN.{getD}
 use Rattle.laws.specs.Loop.{upto}
 use Rattle.laws.proofs.laws.Loop.{upto-zero, upto-turn}
 use Rattle.scene.specs.declared.scene.OrderLine.{OrderLine}
-use Rattle.mixer.specs.Orders.{foundLater, overridden}
-use Rattle.mixer.proofs.laws.Turns.{scaled, next-fits, falls, upto-ended}
-use Rattle.mixer.proofs.orders.overridden.Statement.{statement}
+use Rattle.order_lines.specs.Orders.{foundLater, overridden}
+use Rattle.laws.proofs.laws.Turns.{scaled, next-fits, falls, upto-ended}
+use Rattle.order_lines.proofs.orders.overridden.Statement.{statement}
 use Rattle.accepted.specs.Lines.{absentOrderLine}
-use Rattle.mixer.proofs.orders.overridden.Tie as tie
+use Rattle.order_lines.proofs.orders.overridden.Tie as tie
 
 abbrev turn : List OrderLine → ℕ → ℕ → Bool → Bool
 turn orders i j found = foundLater (getD orders i absentOrderLine) (getD orders j absentOrderLine) i j found

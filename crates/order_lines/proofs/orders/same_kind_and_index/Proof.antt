@@ -1,13 +1,13 @@
--- `orders::alike` meets its contract: the tests are the definition's. Assumes nothing.
+-- `same_kind_and_index` meets its contract: the tests are the definition's. Assumes nothing.
 use mathlib.Core.Path.{_≡_, sym, ap₂, _∙_}
 use mathlib.Core.Bool.{Bool}
 use Prim.Native.Nat.{ℕ}
 use lib.Dec.{eqb}
 use borrow.Author.Tests.{eq-eqb, ne-eqb}
-use Rattle.mixer.proofs.laws.Ordered.{first-no, first-yes}
-use Rattle.mixer.proofs.orders.alike.Statement.{statement}
-use Rattle.mixer.specs.Orders.{sameKindAndIndex}
-use Rattle.mixer.proofs.orders.alike.Tie as tie
+use Rattle.laws.proofs.laws.Choice.{first-no, first-yes}
+use Rattle.order_lines.proofs.orders.same_kind_and_index.Statement.{statement}
+use Rattle.order_lines.specs.Orders.{sameKindAndIndex}
+use Rattle.order_lines.proofs.orders.same_kind_and_index.Tie as tie
 
 -- the kinds' numbers are compared as the program has them
 same-test : {a b m n : ℕ} {t : Bool} → m ≡ a → n ≡ b → eqb m n ≡ t → eqb a b ≡ t
@@ -35,5 +35,5 @@ returns-3 c =
     let d = c .before .before in
     first-yes _ _ (same-test (d .before .before .kind-number .ensures) (d .before .kind-number2 .ensures) (eq-eqb _ _ (d .if2 .left))) ∙ first-yes _ _ (eq-eqb _ _ (d .before .before .before .if1 .left))
 
-pub alike-spec : {M : Type 1} → statement M
-alike-spec = tie.close (tie.spec returns kind-number-requires kind-number-requires-2 returns-2 returns-3)
+pub same-kind-and-index-spec : {M : Type 1} → statement M
+same-kind-and-index-spec = tie.close (tie.spec returns kind-number-requires kind-number-requires-2 returns-2 returns-3)

@@ -15,9 +15,9 @@ use Rattle.renderer.specs.Renderer.{chunkCount, mixerAt}
 use Rattle.renderer.proofs.laws.Renderer.{chunks-few, few-frames}
 use Rattle.steady_blocks.proofs.laws.SteadyBlocks.{next-after, next-most}
 use Rattle.steady_blocks.proofs.laws.Run.{showPiece, run-shows, run-written}
-use Rattle.room_desk.proofs.laws.Blocks.{width, width-most, show-length, block-ends, block-fits, show-turn, show-end, mixer-start, mixer-turn, mixer-reached, run-asks}
-use Rattle.room_desk.proofs.rendering.render_scene.Statement.{statement}
-use Rattle.room_desk.proofs.rendering.render_scene.Tie as tie
+use Rattle.scene_render.proofs.laws.Blocks.{width, width-most, show-length, block-ends, block-fits, show-turn, show-end, mixer-start, mixer-turn, mixer-reached, run-asks}
+use Rattle.scene_render.proofs.blocks.render_scene.Statement.{statement}
+use Rattle.scene_render.proofs.blocks.render_scene.Tie as tie
 
 abbrev Inv-loop : tie.InvT-loop
 Inv-loop scene samples output₀ table blocks wide full last mixer₀ b₀ output mixer b =

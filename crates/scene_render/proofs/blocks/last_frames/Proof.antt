@@ -4,9 +4,9 @@ use Prim.Native.Nat.{ℕ, _-_}
 use native.Mathlib.Omega.{arith}
 use borrow.Author.Needs.{needs}
 use Rattle.renderer.specs.Renderer.{chunkFrames}
-use Rattle.room_desk.proofs.laws.Blocks.{count-positive, last-starts}
-use Rattle.room_desk.proofs.rendering.last_frames.Statement.{statement}
-use Rattle.room_desk.proofs.rendering.last_frames.Tie as tie
+use Rattle.scene_render.proofs.laws.Blocks.{count-positive, last-starts}
+use Rattle.scene_render.proofs.blocks.last_frames.Statement.{statement}
+use Rattle.scene_render.proofs.blocks.last_frames.Tie as tie
 
 chunk-count-requires : tie.Need-chunk-count-requires
 chunk-count-requires c κs = search needs
