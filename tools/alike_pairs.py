@@ -1,7 +1,7 @@
 #!/usr/bin/env python3
-"""Writes the stored pairs of scenes of the crate `alike_pairs`, on which the definition of `alike` is computed.
+"""Writes the stored pairs of scenes of the crate `test_alike_pairs`, on which the definition of `alike` is computed.
 
-    tools/alike_pairs.py             writes Pairs.antt and Computed.antt of crates/alike_pairs/specs, and prints what the pairs are examples of
+    tools/alike_pairs.py             writes specs/Pairs.antt, specs/Computed.antt and proofs/laws/Computed.antt, and prints what the pairs are examples of
     tools/alike_pairs.py --check     writes nothing, and says whether the files are as they would be written, spaces and line ends aside
 
 The pairs are those of oracle/scripts/pairs.py, small ones of the seeds below: alike ones with an example of everything in FEATURES, and a control pair of
@@ -14,7 +14,7 @@ ROOT = pathlib.Path(__file__).resolve().parent.parent
 sys.path.insert(0, str(ROOT / "oracle/scripts"))
 import pairs  # noqa: E402
 
-SPECS = ROOT / "crates/alike_pairs/specs"
+CRATE = ROOT / "crates/test_alike_pairs"
 SEED, EACH, TRIES = 12, 3, 20000
 TABLES = ("head", "clocks", "tracks", "sends", "routes", "sounds", "orders")
 
@@ -83,7 +83,7 @@ def listed(items):
 
 
 def raised(n):
-    return f"plus {n}" if n >= 0 else f"minus {-n}"
+    return f"raised {n}" if n >= 0 else f"raisedMinus {-n}"
 
 
 def table(lines):
@@ -106,8 +106,8 @@ def text(found, controls):
     out = [
         "-- Stored pairs of scenes, made by tools/alike_pairs.py: alike ones, and control pairs in which one rule is broken.",
         "use mathlib.Core.List.{List, [], _∷_}",
-        "use Rattle.scene_tables.specs.Tables.{plus, minus}",
-        "use Rattle.alike_pairs.specs.Side.{Pair}",
+        "use Rattle.test_alike_pairs.specs.Side.{Pair}",
+        "use Rattle.scene_tables.specs.Tables.{raised, raisedMinus}",
         "",
     ]
     for names, group in (("alikePairs", found), ("controlPairs", controls)):
@@ -118,32 +118,37 @@ def text(found, controls):
     return "\n".join(out).rstrip("\n") + "\n"
 
 
-HEAD = """-- `alike` says yes of each stored pair that is alike, and no of each control pair; made by tools/alike_pairs.py. A pair has a declaration of its own, since
+CLAIM = """-- `alike` says yes of each stored pair that is alike, and no of each control pair; made by tools/alike_pairs.py. A pair has a declaration of its own, since
 -- what one declaration may compute is limited.
-use mathlib.Core.Bool.{Bool, not}
+"""
+EACH_OF = CLAIM + """use mathlib.Core.Bool.{Bool}
 use mathlib.Core.List.{List, [], _∷_}
 use lib.Dec.{T}
-use lib.Ieee.{toBits, ofBits}
-use Rattle.laws.specs.Loop.{upto, changed}
-use Rattle.laws.specs.Kept.{rank, keptOf}
-use Rattle.scene_tables.specs.Bytes.{every}
-use Rattle.scene_questions.specs.Questions.{parentOf}
-use Rattle.noninterference.specs.Lines.{newLine}
-use Rattle.noninterference.specs.Removed.{insideWithin, inside, removedTrack, namesRemoved, removedRoute, removedSound, removedOrder, counted, countedOrder, left, leftTables}
-use Rattle.noninterference.specs.Silent.{silentVolume, names, muted, stops, holds, held}
-use Rattle.noninterference.specs.Alike.{same, sameLines, unplaced, sameTables, chosenLeft, framesLeft, sameBits, silentChoice, alike}
-use Rattle.alike_pairs.specs.Side.{Pair, choiceOf, alikePair}
-use Rattle.alike_pairs.specs.Pairs.{PAIRS}
+use Rattle.test_alike_pairs.specs.Side.{Pair}
 
 -- every pair of a list
 abbrev pub Each : (Pair → Bool) → List Pair → Type 0
 Each f [] = Unit {0}
 Each f (p ∷ l) = T (f p) × Each f l
 """
+HEAD = CLAIM + """use mathlib.Core.Bool.{not}
+use lib.Dec.{T}
+use lib.Ieee.{toBits, ofBits}
+use Rattle.laws.specs.Loop.{upto, changed}
+use Rattle.laws.specs.Kept.{rank, keptOf}
+use Rattle.scene_tables.specs.Bytes.{every}
+use Rattle.scene_questions.specs.Questions.{parentOf}
+use Rattle.noninterference.specs.Removed.{newLine, insideWithin, inside, removedTrack, namesRemoved, removedRoute, removedSound, removedOrder, leftTables, renumbered, renumberedOrder, linesLeft}
+use Rattle.noninterference.specs.Silent.{silentVolume, names, muted, held, pausesOrResumes, isHolding}
+use Rattle.noninterference.specs.Alike.{same, sameLines, unplaced, sameTables, chosenLeft, framesLeft, sameBits, silentChoice, alike}
+use Rattle.test_alike_pairs.specs.Side.{choiceOf, alikePair}
+use Rattle.test_alike_pairs.specs.Pairs.{PAIRS}
+use Rattle.test_alike_pairs.specs.Computed.{Each}
+"""
 UNFOLDED = (
-    "alikePair choiceOf alike sameTables sameLines same unplaced chosenLeft framesLeft sameBits silentChoice toBits ofBits leftTables left keptOf changed counted "
-    "countedOrder newLine rank insideWithin inside removedTrack removedRoute removedSound removedOrder namesRemoved parentOf muted silentVolume names held stops holds "
-    "every upto"
+    "alikePair choiceOf alike sameTables sameLines same unplaced chosenLeft framesLeft sameBits silentChoice toBits ofBits leftTables linesLeft keptOf changed "
+    "renumbered renumberedOrder newLine rank insideWithin inside removedTrack removedRoute removedSound removedOrder namesRemoved parentOf muted silentVolume names "
+    "held pausesOrResumes isHolding every upto"
 )
 
 
@@ -165,13 +170,13 @@ def computed(found, controls):
 
 def main():
     found, controls, counts = stored()
-    files = {"Pairs.antt": text(found, controls), "Computed.antt": computed(found, controls)}
+    files = {"specs/Pairs.antt": text(found, controls), "specs/Computed.antt": EACH_OF, "proofs/laws/Computed.antt": computed(found, controls)}
     if sys.argv[1:] == ["--check"]:
-        same = all((SPECS / name).read_text().split() == written.split() for name, written in files.items())
+        same = all((CRATE / name).read_text().split() == written.split() for name, written in files.items())
         print("as they would be written" if same else "not as they would be written")
         sys.exit(not same)
     for name, written in files.items():
-        (SPECS / name).write_text(written)
+        (CRATE / name).write_text(written)
     print(f"{len(found)} alike pairs:", ", ".join(f"{name} {n}" for name, n in counts.items()))
     print(f"{len(controls)} control pairs:", ", ".join(kind for kind, _ in controls))
 

@@ -1,6 +1,6 @@
 #!/usr/bin/env python3
-"""Makes the lists of vectors that the programs tween_vectors, clock_vectors, parameter_vectors and
-playback_vectors run.
+"""Makes the lists of vectors that the programs test_tween, test_clock, test_parameter and
+test_playback run.
 
     tools/leaf_vectors.py [--oracle FOLDER]     writes the six lists
     tools/leaf_vectors.py --check [..]          writes nothing, and says whether the lists are as it would write them
@@ -387,27 +387,27 @@ LEVELS = "level, level before, level between"
 
 
 def all_lists():
-    yield "tween_vectors/data/easing.txt", *listed(
+    yield "test_tween/data/easing.txt", *listed(
         "`Easing::apply`.", ["easing (0 Linear, 1 InPowi, 2 OutPowi, 3 InOutPowi), power, x, what it gives"], "", plain_list("easing", easing_requests(), easing_row)), None
-    yield "tween_vectors/data/interpolation.txt", *listed(
+    yield "test_tween/data/interpolation.txt", *listed(
         "Interpolation of decibels.", ["a level, another, the amount, the level between"], "", plain_list("interpolation", interpolation_requests(), interpolation_row)), None
     found = collections.Counter()
-    yield "clock_vectors/data/clock.txt", *listed(
+    yield "test_clock/data/clock.txt", *listed(
         "Clocks that move.", ["n: a new clock: unit (0 seconds per tick, 1 ticks per second, 2 ticks per minute), speed, ticking", "u: an update: seconds, ticks after it, fraction after it"],
         "u", clock_list(found)), found
     needs(found, [f"unit {u}, ticking, {t} ticks" for u in range(3) for t in (0, 1, "several", "100 or more")] + [f"unit {u}, not ticking, 0 ticks" for u in range(3)])
     found = collections.Counter()
-    yield "clock_vectors/data/when_to_start.txt", *listed(
+    yield "test_clock/data/when_to_start.txt", *listed(
         "`when_to_start`.", [CLOCK_ROW, "w: a question: clocks that are there, the clock, tick and fraction asked for, the answer (0 now, 1 later, 2 never)"], "w", start_list(found)), found
     needs(found, ["now", "later", "never", "the clock is not there", "the clock does not tick", "tick before", "tick after"] + [f"equal tick, fraction {w}" for w in ("below", "at", "above")])
     found = collections.Counter()
     starts = ["immediate", "delayed", "on a clock"]
-    yield "parameter_vectors/data/parameter.txt", *listed(
+    yield "test_parameter/data/parameter.txt", *listed(
         "Traces of a parameter.", ["n: a new parameter: its level", f"s: a set: level, {ORDER}", CLOCK_ROW, f"u: an update: {CHUNK}; finished, {LEVELS}"],
         "u", trace_list("parameter", parameter_traces(), parameter_columns, found)), found
     needs(found, [f"set {s}, {d} duration" for s in starts for d in ("a", "zero")] + [f"set, easing {k} power {p}" for k, p in EASINGS] + ["finished"])
     found = collections.Counter()
-    yield "playback_vectors/data/playback.txt", *listed(
+    yield "test_playback/data/playback.txt", *listed(
         "Traces of a playback state.", ["n: a new one, which plays: the trace's number", f"p, r: a pause, a resume: {ORDER}", CLOCK_ROW,
          f"u: an update: {CHUNK}; changed, state ({', '.join(f'{n} {s}' for n, s in enumerate(STATES))}), advancing, {LEVELS} (of the fade)"],
         "u", trace_list("playback", playback_traces(), playback_columns, found)), found

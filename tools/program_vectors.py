@@ -1,7 +1,7 @@
 #!/usr/bin/env python3
-"""Writes the list of the program `program_vectors`: scene and sample files, and what the oracle prints for them.
+"""Writes the list of the program `test_program`: scene and sample files, and what the oracle prints for them.
 
-    tools/program_vectors.py ORACLE             writes crates/program_vectors/stdin and stdout
+    tools/program_vectors.py ORACLE             writes crates/test_program/stdin and stdout
     tools/program_vectors.py ORACLE --check     writes nothing, and says whether they are as it would write them
 
 Each case has the number that document 01 gives it, decided here by hand; the oracle must agree, and its text is what is stored.
@@ -14,7 +14,7 @@ import tempfile
 from case_stream import joined, store
 
 ROOT = pathlib.Path(__file__).resolve().parent.parent
-CRATE = ROOT / "crates/program_vectors"
+CRATE = ROOT / "crates/test_program"
 sys.path.insert(0, str(ROOT / "oracle/scripts"))
 from tables import Scene, bits  # noqa: E402
 
@@ -105,7 +105,7 @@ def corners():
 
 
 def rows():
-    """01's unstarred rows, as stored with the oracle. NaN, 11, is the amplitude routine's: `decibels_vectors` has it."""
+    """01's unstarred rows, as stored with the oracle. NaN, 11, is the amplitude routine's: `test_decibels` has it."""
     for name, number in (
         ("sample-scene", 0),
         ("routed-track", 0),

@@ -1,7 +1,7 @@
 #!/usr/bin/env python3
-"""Writes the list of the program `render_vectors`: scenes, and the oracle's answers.
+"""Writes the list of the program `test_render`: scenes, and the oracle's answers.
 
-    tools/render_vectors.py ORACLE             writes crates/render_vectors/stdin and stdout
+    tools/render_vectors.py ORACLE             writes crates/test_render/stdin and stdout
     tools/render_vectors.py ORACLE --check     writes nothing, and says whether they are as it would write them
 
 The scenes are the stored ones of oracle/scenes whose output is at most 600 samples long, generated ones with short outputs (seed below), and both scenes of
@@ -16,7 +16,7 @@ import alike_pairs
 from case_stream import answers, as_library, joined, split, store
 
 ROOT = pathlib.Path(__file__).resolve().parent.parent
-CRATE = ROOT / "crates/render_vectors"
+CRATE = ROOT / "crates/test_render"
 SEED, MADE, WANTED = 8, 6000, 170
 PAIRS_MADE, PAIRS_WANTED = 800, 12
 ROOM = 500000  # bytes that the program can read

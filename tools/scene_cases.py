@@ -1,5 +1,5 @@
 #!/usr/bin/env python3
-"""Cases for `scene_vectors` and for the oracle's `batch`: scene files, samples and an output length.
+"""Cases for `test_scene` and for the oracle's `batch`: scene files, samples and an output length.
 
     scene_cases.py SEED COUNT > CASES                      generated and damaged cases, as a stream
     scene_cases.py --compare ORACLE PROGRAM SEED COUNT     runs both on the same stream and compares the numbers
@@ -32,7 +32,7 @@ RANGES = [
     [(0, 1023), (0, 5), None, VOLUME, None, (0, 3600000), (0, 999), (0, 3600000), (0, 3), (0, 8)],
 ]
 TARGETS = {1: 2, 2: 3, 3: 4, 4: 2, 5: 2}
-# what `scene_vectors` reads at once
+# what `test_scene` reads at once
 ROOM = 524288
 
 

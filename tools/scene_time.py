@@ -1,5 +1,5 @@
 #!/usr/bin/env python3
-"""What reading the largest accepted scene costs, by `scene_vectors`.
+"""What reading the largest accepted scene costs, by `test_scene`.
 
     scene_time.py PROGRAM
 

@@ -1,5 +1,5 @@
 #!/usr/bin/env python3
-"""The list of small inputs that `scene_vectors` runs: writes its stdin and its stdout.
+"""The list of small inputs that `test_scene` runs: writes its stdin and its stdout.
 
     scene_vectors.py FOLDER             writes FOLDER/stdin and FOLDER/stdout
     scene_vectors.py --oracle ORACLE    asks the oracle for every number and compares

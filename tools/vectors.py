@@ -1,19 +1,21 @@
 #!/usr/bin/env python3
-"""Makes the lists of vectors that the programs number_vectors and decibels_vectors run.
+"""Makes the lists of vectors that the programs test_rounding and test_decibels run.
 
-    tools/vectors.py [--testfp FILE]     writes the four lists; needs rustc
-    tools/vectors.py --check [..]        writes nothing, and says whether the lists are as it would write them
+    tools/vectors.py [--testfp FILE] [--glibc FOLDER]     writes the four lists; needs rustc
+    tools/vectors.py --check [..]                         writes nothing, and says whether the lists are as it would write them
 
 FILE is strconv/testdata/testfp.txt of Debian's golang-1.19-src, which holds the stress inputs of Vern Paxson, "A
-Program for Testing IEEE Decimal-Binary Conversion". Without it the package is fetched by `apt-get download` and
-unpacked into a temporary folder. The lists are kept in the repository, so that its tests need neither.
+Program for Testing IEEE Decimal-Binary Conversion". FOLDER is the source of the GNU C Library 2.36, of Debian's
+glibc-source; the results of its tests of `strtod` and of narrowing operations are read. What is not given is fetched by `apt-get download` and unpacked into a
+temporary folder. The lists are kept in the repository, so that its tests need neither.
 
 What is expected is never worked out by the code under test. Rounding, nanoseconds and seconds come from Rust's own
-casts and `Duration` (tools/vectors.rs). Amplitudes are worked out here from document 01's rule, with whole numbers
-alone.
+casts and `Duration` (tools/vectors.rs); where a published set says the f32 of an f64, it must be Rust's, or the script
+fails. Amplitudes are worked out here from the gain table's rule, with whole numbers alone.
 """
 import argparse
 import glob
+import math
 import os
 import random
 import re
@@ -84,7 +86,7 @@ class Format:
 F32, F64 = Format(24, 8), Format(53, 11)
 
 
-# ---- 01's amplitude
+# ---- the amplitude, by the gain table's rule
 
 
 def entry(k):
@@ -128,13 +130,49 @@ def amplitude(bits):
 # ---- inputs
 
 
+def unpacked(package, folder):
+    """The folder with the files of a Debian package."""
+    subprocess.run(["apt-get", "download", package], cwd=folder, check=True, stdout=sys.stderr)
+    file, = glob.glob(os.path.join(folder, package + "_*.deb"))
+    out = os.path.join(folder, "out")
+    subprocess.run(["dpkg", "-x", file, out], check=True)
+    return out
+
+
+def text_of(*path):
+    with open(os.path.join(*path)) as f:
+        return f.read()
+
+
 def fetch_testfp():
     with tempfile.TemporaryDirectory() as folder:
-        subprocess.run(["apt-get", "download", "golang-1.19-src"], cwd=folder, check=True, stdout=sys.stderr)
-        package, = glob.glob(os.path.join(folder, "golang-1.19-src_*.deb"))
-        subprocess.run(["dpkg", "-x", package, os.path.join(folder, "out")], check=True)
-        with open(os.path.join(folder, "out/usr/share/go-1.19/src/strconv/testdata/testfp.txt")) as f:
-            return f.read()
+        return text_of(unpacked("golang-1.19-src", folder), "usr/share/go-1.19/src/strconv/testdata/testfp.txt")
+
+
+# The files of glibc: decimal numbers with the binary32 and binary64 next to each, and operations on exact numbers with
+# the binary32 next to the result.
+DECIMALS = "stdlib/tst-strtod-round-data.h"
+NARROW = "math/auto-libm-test-out-narrow-"
+OPERATIONS = {
+    "add": lambda a, b: a + b,
+    "sub": lambda a, b: a - b,
+    "mul": lambda a, b: a * b,
+    "div": lambda a, b: a / b if b else None,
+    "fma": lambda a, b, c: a * b + c,
+    "sqrt": lambda a: root(a),
+}
+
+
+def glibc_files(folder):
+    return {name: text_of(folder, name) for name in [DECIMALS] + [NARROW + op for op in OPERATIONS]}
+
+
+def fetch_glibc():
+    with tempfile.TemporaryDirectory() as folder:
+        archive, = glob.glob(os.path.join(unpacked("glibc-source", folder), "usr/src/glibc/glibc-*.tar.xz"))
+        subprocess.run(["tar", "xf", archive, "-C", folder, "--wildcards", "*/" + DECIMALS, "*/" + NARROW + "*"], check=True)
+        source, = glob.glob(os.path.join(folder, "glibc-*/"))
+        return glibc_files(source)
 
 
 def exact(text):
@@ -157,6 +195,61 @@ def published(testfp):
     return inputs
 
 
+def root(x):
+    """The exact square root, where a fraction is one."""
+    if x < 0:
+        return None
+    r = Fraction(math.isqrt(x.numerator), math.isqrt(x.denominator))
+    return r if r * r == x else None
+
+
+def hexadecimal(text):
+    """The exact value of a number of C, as -0x1.8p-3."""
+    sign, whole, part, power = re.fullmatch(r"(-?)0x([0-9a-f]+)(?:\.([0-9a-f]+))?p([+-]\d+)", text).groups("")
+    x = int(whole + part, 16) * Fraction(2) ** (int(power) - 4 * len(part))
+    return -x if sign else x
+
+
+def f64_value(x):
+    """The pattern of x, where x is a finite f64 other than 0."""
+    if not x or abs(x) >= Fraction(2) ** 1024 or F64.round(abs(x)) != abs(x):
+        return None
+    return F64.bits(abs(x)) + (F64.sign if x < 0 else 0)
+
+
+def f32_result(text, negative):
+    """The pattern of a result of glibc's; a zero has the sign of what was rounded."""
+    if not text.lstrip("-").startswith("0x"):
+        assert text.lower().removeprefix("-") in ("inf", "plus_infty", "minus_infty"), text
+        bits = 0x7F800000
+    else:
+        bits = F32.bits(abs(hexadecimal(text)))
+    return bits + (F32.sign if negative else 0)
+
+
+def glibc_decimals(glibc):
+    """Each decimal number of glibc's test of `strtod` that is an f64, with its f32: the two formats come first, and of each a
+    flag that says whether the number has it exactly, then the results downward, to nearest, toward zero and upward, each with a flag."""
+    found = {}
+    for body in re.findall(r'TEST \("[^"]*",(.*?)\)', glibc[DECIMALS], re.S):
+        items = [item.strip() for item in body.split(",")]
+        f32, f64 = items[0:9], items[9:18]
+        if f64[0] == "true" and f64_value(hexadecimal(f64[3])) is not None:
+            found[f64_value(hexadecimal(f64[3]))] = f32_result(f32[3], f64[3].startswith("-"))
+    return found
+
+
+def glibc_narrow(glibc):
+    """Each exact result of glibc's tests of narrowing operations that is an f64, with its f32."""
+    found = {}
+    for op, exactly in OPERATIONS.items():
+        for operands, result in re.findall(r"^= \w+ tonearest binary32:arg_fmt\(\S*\) (.*?) : (\S+) :", glibc[NARROW + op], re.M):
+            x = exactly(*map(hexadecimal, operands.split()))
+            if x is not None and f64_value(x) is not None:
+                found[f64_value(x)] = f32_result(result, x < 0)
+    return found
+
+
 def both_signs(patterns, sign=F64.sign):
     return [s + p for p in patterns for s in (0, sign)]
 
@@ -177,10 +270,13 @@ def halfway(bits):
     return F64.bits((below + above) / 2)
 
 
-def rounding_inputs(testfp):
+def rounding_inputs(testfp, decimals, narrow):
     pub = published(testfp)
     yield "published: every input of strconv/testdata/testfp.txt, in its order, as the nearest f64", pub
-    yield "ours: the published inputs, negative", [F64.sign + p for p in pub]
+    yield "published: every decimal of glibc 2.36's stdlib/tst-strtod-round-data that is an f64, in its order", list(decimals)
+    yield ("published: every exact result other than 0 in glibc 2.36's math/auto-libm-test-out-narrow-{add,sub,mul,div,fma,sqrt} that is an f64, each once",
+           list(narrow))
+    yield "ours: the inputs of testfp.txt, negative", [F64.sign + p for p in pub]
     digits = [0, 1, 0x7FFFFE, 0x7FFFFF]
     yield ("ours: halfway between an f32 and the next, with the f64 on either side: at every exponent, even and odd, first and last digits",
            both_signs([p for field in range(255) for d in digits for p in around(halfway((field << 23) + d))]))
@@ -270,40 +366,49 @@ def listed(title, columns, source, sections, width, expected):
     return "\n".join(lines) + "\n"
 
 
-def all_lists(testfp, program):
+def as_published(inputs, results, *sets):
+    """The results, where each that a published set says is that one."""
+    of = dict(zip(inputs, results))
+    for published_set in sets:
+        differing = [i for i, f32 in published_set.items() if int(of[i], 16) != f32]
+        assert not differing, [f"{i:016x}" for i in differing]
+    return results
+
+
+def all_lists(testfp, glibc, program):
     rust = lambda name: lambda inputs: by_rust(program, name, inputs)
+    decimals, narrow = glibc_decimals(glibc), glibc_narrow(glibc)
     version = subprocess.run(["rustc", "--version"], capture_output=True, text=True, check=True).stdout.split()[1]
     by = f"Expected: rustc {version}, "
-    yield "number_vectors/data/rounding.txt", listed(
-        "f64 to f32.", "the f64's bits, the bits of the f32", by + "`x as f32`. A NaN may have any NaN's bits.",
-        rounding_inputs(testfp), 16, rust("rounding"))
-    yield "number_vectors/data/nanoseconds.txt", listed(
+    yield "test_rounding/data/rounding.txt", listed(
+        "f64 to f32.", "the f64's bits, the bits of the f32",
+        by + "`x as f32`; glibc's results are the same. A NaN may have any NaN's bits.",
+        rounding_inputs(testfp, decimals, narrow), 16, lambda inputs: as_published(inputs, rust("rounding")(inputs), decimals, narrow))
+    yield "test_rounding/data/nanoseconds.txt", listed(
         "Seconds to nanoseconds.", "the bits of an f64 from 0 to 3,600, whole nanoseconds", by + "`Duration::from_secs_f64(x).as_nanos()`.",
         nanosecond_inputs(), 16, rust("nanoseconds"))
-    yield "number_vectors/data/seconds.txt", listed(
+    yield "test_rounding/data/seconds.txt", listed(
         "Milliseconds to seconds.", "milliseconds, the bits of the f64", by + "`Duration::from_millis(n).as_secs_f64()`.",
         second_inputs(), 8, rust("seconds"))
-    yield "decibels_vectors/data/amplitude.txt", listed(
-        "Decibels to amplitude.", "the f32's bits, 01's number (0, or 11), the bits of the amplitude (0 where it is refused)",
-        "Expected: 01's rule, worked out with whole numbers in tools/vectors.py.",
+    yield "test_decibels/data/amplitude.txt", listed(
+        "Decibels to amplitude.", "the f32's bits, the number answered (0, or 11), the bits of the amplitude (0 where it is refused)",
+        "Expected: the gain table's rule, worked out with whole numbers in tools/vectors.py.",
         amplitude_inputs(), 8, lambda inputs: [f"{n:02x} {a:08x}" for n, a in map(amplitude, inputs)])
 
 
 def main():
     options = argparse.ArgumentParser()
     options.add_argument("--testfp")
+    options.add_argument("--glibc")
     options.add_argument("--check", action="store_true")
     given = options.parse_args()
-    if given.testfp:
-        with open(given.testfp) as f:
-            testfp = f.read()
-    else:
-        testfp = fetch_testfp()
+    testfp = text_of(given.testfp) if given.testfp else fetch_testfp()
+    glibc = glibc_files(given.glibc) if given.glibc else fetch_glibc()
     same = True
     with tempfile.TemporaryDirectory() as folder:
         program = os.path.join(folder, "vectors")
         subprocess.run(["rustc", "--edition", "2021", "-O", "-o", program, os.path.join(ROOT, "tools/vectors.rs")], check=True)
-        for name, text in all_lists(testfp, program):
+        for name, text in all_lists(testfp, glibc, program):
             path = os.path.join(ROOT, "crates", name)
             if given.check:
                 with open(path) as f:

@@ -17,7 +17,7 @@ extern "C" {
     fn room_desk_amplitude(decibels: f32, amplitude: &mut f32) -> u32;
 }
 
-#[link(name = "amplitude_bench", kind = "static")]
+#[link(name = "test_amplitude_bench", kind = "static")]
 extern "C" {
     fn room_desk_amplitudes(decibels: *const f32, count: usize, amplitudes: *mut f32, places: usize);
 }
