@@ -1,0 +1,107 @@
+#!/usr/bin/env python3
+"""Runs what docs/SCENE.md and docs/REFUSALS.md show, and says where a page is not true. Exit status 1 where one is not.
+
+    tools/pages.py PROGRAM ORACLE     the compiled render program (target/bin/render), and the oracle for numbers 10 and 11
+
+Of SCENE.md: each whole scene is accepted; the first prints what stands below it, and the second has the levels of the table.
+Of REFUSALS.md: each example gets the number that it stands under.
+"""
+import pathlib
+import re
+import struct
+import subprocess
+import sys
+import tempfile
+
+ROOT = pathlib.Path(__file__).resolve().parent.parent
+FIRST = [0.5, -0.25, 1.0, 0.0]
+SHOW = [0.25, 0.0] * 2048 + [0.0, 0.25] * 2048
+program, oracle = (str(pathlib.Path(p).resolve()) for p in sys.argv[1:])
+wrong = 0
+
+
+def raw(samples):
+    return struct.pack(f"<{len(samples)}f", *samples)
+
+
+def in_folder(scene, samples, *command):
+    """What a command prints in a folder with the two files."""
+    with tempfile.TemporaryDirectory() as folder:
+        pathlib.Path(folder, "scene.txt").write_text(scene, newline="\n")
+        pathlib.Path(folder, "samples.raw").write_bytes(samples)
+        return subprocess.run([word.replace("FOLDER", folder) for word in command], cwd=folder, capture_output=True, text=True, check=True).stdout
+
+
+def expect(what, found, expected):
+    global wrong
+    if found != expected:
+        wrong += 1
+        print(f"not so: {what}: {found!r}, and the page says {expected!r}")
+
+
+def changed(scene, example):
+    """The scene with each `A` becomes `B`, .. of an example; a line is changed where it first stands."""
+    lines = scene.split("\n")
+    for old, new in re.findall(r"`([^`]*)` becomes (?:the \w+ lines )?(`[^`]*`(?:, `[^`]*`)*)", example):
+        at = lines.index(old)
+        lines[at:at + 1] = re.findall(r"`([^`]*)`", new)
+    return "\n".join(lines)
+
+
+def files_of(scene, example):
+    samples = raw(FIRST)
+    if "is empty" in example:
+        scene = ""
+    if "last line feed is missing" in example:
+        scene = scene[:-1]
+    given = re.search(r"samples are `([^`]*)`", example)
+    if given:
+        samples = raw([float(x) for x in given[1].split()])
+    given = re.search(r"`samples.raw` has (\d+) bytes", example)
+    if given:
+        samples = (samples + bytes(int(given[1])))[:int(given[1])]
+    return changed(scene, example), samples
+
+
+def refusal(scene, example):
+    """The number that an example gets."""
+    given = re.search(r"output of (\d+) samples", example)
+    if given:
+        return in_folder(scene, raw(FIRST), oracle, "check", "FOLDER", given[1]).strip()
+    given = re.search(r"the level ([\w.]+)", example)
+    if given:
+        bits, = struct.unpack("<I", struct.pack("<f", float(given[1])))
+        return subprocess.run([oracle, "leaf"], input=f"amplitude {bits}\n", capture_output=True, text=True, check=True).stdout.strip()
+    text = in_folder(*files_of(scene, example), program)
+    return text.split("\n")[1] if text.startswith("refused\n") else text
+
+
+def check_show(page, scene):
+    """The last frame of each block, to four places, next to the table's."""
+    rows = [line.split() for line in in_folder(scene, raw(SHOW), program).split("\n")[1:-1]]
+    last = {}
+    for block, place, bits in rows:
+        last.setdefault(block, []).append(struct.unpack("<f", struct.pack("<I", int(bits)))[0])
+    for blocks, left, right in re.findall(r"^\| ([\d, ]+) \| ([\d.]+) \| ([\d.]+) \|", page, re.M):
+        for block in blocks.split(", "):
+            expect(f"block {block} of the show", [f"{x:.4f}" for x in last[block][-2:]], [left, right])
+
+
+def main():
+    page = (ROOT / "docs/SCENE.md").read_text()
+    first, show = re.findall(r"^```scene\n(.*?)^```", page, re.M | re.S)
+    printed, = re.findall(r"^```printed\n(.*?)^```", page, re.M | re.S)
+    expect("the first scene", in_folder(first, raw(FIRST), program), printed)
+    expect("examples/first", [(ROOT / "examples/first/scene.txt").read_text(), (ROOT / "examples/first/samples.raw").read_bytes()], [first, raw(FIRST)])
+    check_show(page, show)
+    count = 0
+    for section in re.split(r"^## ", (ROOT / "docs/REFUSALS.md").read_text(), flags=re.M)[1:]:
+        for example in re.findall(r"Example: (.*?)(?=\.? Example:|\.?$)", section, re.M):
+            count += 1
+            expect(f"“{example}”", refusal(first, example), section.split(":")[0])
+    print(f"2 scenes and {count} refusals, {wrong} not as the pages say")
+    sys.exit(1 if wrong else 0)
+
+
+if __name__ == "__main__":
+    main()
