@@ -1,9 +1,9 @@
 #!/usr/bin/env python3
-"""Prints the gain table's entries by document 01's rule, with whole numbers alone.
+"""Prints the gain table's entries by its rule, with whole numbers alone.
 
 Entry n is the whole part of 2^40 * 10^((n - 960) / 320), for n from 0 to 1344.
     tools/gain_table.py          one entry a line
-    tools/gain_table.py rattle   the constant of crates/decibels/src/table.rt
+    tools/gain_table.py rattle   the constant of crates/gain_table/src/lib.rt
 """
 import sys
 
@@ -23,7 +23,7 @@ def entry(n):
 def main():
     entries = [entry(n) for n in range(ENTRIES)]
     if sys.argv[1:] == ["rattle"]:
-        print(f"pub const GAIN_TABLE: [u64; {ENTRIES}] = [")
+        print(f"const GAIN_TABLE: [u64; {ENTRIES}] = [")
         print("\n".join(f"    {e}," for e in entries))
         print("];")
     else:

@@ -4,7 +4,7 @@
     tools/program_vectors.py ORACLE             writes crates/test_program/stdin and stdout
     tools/program_vectors.py ORACLE --check     writes nothing, and says whether they are as it would write them
 
-Each case has the number that document 01 gives it, decided here by hand; the oracle must agree, and its text is what is stored.
+Each case has the number that docs/REFUSALS.md gives it, decided here by hand; the oracle must agree, and its text is what is stored.
 """
 import pathlib
 import subprocess
@@ -23,7 +23,7 @@ HALF, QUARTER, ONE = bits(0.5), bits(-0.25), bits(1.0)
 
 
 def sample_scene(**changes):
-    """01's sample scene, with some tables changed."""
+    """The scene of examples/first, with some tables changed."""
     tables = dict(head=[[8192, 2, 128, 2, 1, 0]], tracks=[[0, 0]], sounds=[[1, 0, 2]], samples=[HALF, QUARTER, ONE, 0])
     return Scene(**{**tables, **changes})
 
@@ -105,7 +105,7 @@ def corners():
 
 
 def rows():
-    """01's unstarred rows, as stored with the oracle. NaN, 11, is the amplitude routine's: `test_decibels` has it."""
+    """The worked examples that no proof has, as stored with the oracle. NaN, 11, is the amplitude routine's: `test_decibels` has it."""
     for name, number in (
         ("sample-scene", 0),
         ("routed-track", 0),

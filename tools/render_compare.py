@@ -20,7 +20,7 @@ MOST = 200  # cases a run, so that streams stay small
 
 
 def largest():
-    """01's largest scene: every table full but the orders, 8 channels, 1,024 blocks of 512 frames."""
+    """The largest scene: every table full but the orders, 8 channels, 1,024 blocks of 512 frames."""
     tracks = [(0 if t % 4 == 0 else t, -3000 - 10 * t) for t in range(32)]
     routes = [(r // 2 + 1, (r + r // 16) % 8 + 1, -6000) for r in range(64)]
     sounds = [(k % 33, 16 * k, 4096 - 16 * k) for k in range(64)]

@@ -5,7 +5,7 @@
     scene_vectors.py --oracle ORACLE    asks the oracle for every number and compares
     scene_vectors.py --list             prints the list
 
-Each vector says the number that document 01 gives, which is decided here and not asked of any program.
+Each vector says the number that docs/REFUSALS.md gives, which is decided here and not asked of any program.
 """
 import copy
 import pathlib

@@ -1,4 +1,4 @@
-//! Holds `room_desk_amplitude`, and the form of it that the library uses inside, to document 01's
+//! Holds `room_desk_amplitude`, and the form of it that the library uses inside, to the gain table's
 //! rule at every f32 from -60 to 24, and measures what a call of the inside form costs.
 //! docs/AMPLITUDE.md says how to build and run it.
 //!

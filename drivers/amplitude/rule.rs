@@ -1,4 +1,4 @@
-//! Document 01's amplitude, with whole numbers alone. Nothing here is taken from the library: the
+//! The amplitude by the gain table's rule, with whole numbers alone. Nothing here is taken from the library: the
 //! table is made at the start by its rule, and every rounding is spelled out.
 
 use std::cmp::Ordering;

@@ -1,5 +1,5 @@
-// Document 01's table of gains and its rule for reading it: ours, in the place
-// of `powf` in kira's `Decibels::as_amplitude`.
+// The gain table and the rule for reading it: ours, in the place of `powf`
+// in kira's `Decibels::as_amplitude`.
 
 /// Entry n is the whole part of 2^40 · 10^((n - 960) / 320), made by
 /// `scripts/gain_table.py`.

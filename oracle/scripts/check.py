@@ -53,7 +53,7 @@ def answers(cases):
         assert at == len(data)
 
 
-# Document 01's rows that need no scene.
+# The worked examples that need no scene.
 
 
 def check_rows():
@@ -110,7 +110,7 @@ def check_leaves(count):
             if (expected := models.answer(request)) not in (None, got)
         ]
         modelled = models.answer(requests[0]) is not None
-        compared = "equal to 01's rule" if modelled else "answered"
+        compared = "equal to the rule" if modelled else "answered"
         report(f"leaf {name}", not wrong, f"{count} {compared} {wrong[:1] or ''}")
 
 

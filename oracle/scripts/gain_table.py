@@ -1,5 +1,5 @@
 #!/usr/bin/env python3
-"""Makes the oracle's gain table from document 01's rule, in whole numbers.
+"""Makes the oracle's gain table from its rule, in whole numbers.
 
 Entry k, from -960 to 384, is the whole part of 2^40 * 10^(k/320): the largest
 r with r^320 * 10^max(-k, 0) <= 2^12800 * 10^max(k, 0).

@@ -1,4 +1,4 @@
-"""Document 01's rules for the small pieces, in Python's whole numbers and
+"""The rules for the small pieces, in Python's whole numbers and
 IEEE doubles. The oracle's answers are compared with them."""
 import math
 import re

@@ -1,5 +1,5 @@
 #!/usr/bin/env python3
-"""The stored scenes: document 01's rows that need a scene, and each behaviour
+"""The stored scenes: worked examples that need a scene, and each behaviour
 that is easy to get wrong.
 
     named.py    writes scene.txt and samples.raw into oracle/scenes/NAME
@@ -72,7 +72,7 @@ def used_up(chunks, n):
     return place(chunks[n][0])
 
 
-# Document 01's rows, at its rate and buffer.
+# The worked examples, at their rate and buffer.
 
 ROW = dict(rate=8192, buffer=128)
 

@@ -1,8 +1,8 @@
 """Pairs of scenes that are alike but for what lies inside silenced tracks,
 and control pairs that break one rule each.
 
-Document 01's words: a chosen track is hushed (here: muted) or held (here:
-paused at the start). Struck lines (here: inside) are what may differ.
+The words are those of docs/SILENCE.md: a chosen track is muted or held (paused
+at the start), and the lines inside it are what may differ.
 """
 import scenes
 from tables import MOST_LINES, PROGRAM_LIMIT, Random, Scene, bits, field

@@ -151,7 +151,7 @@ class Trace:
 
 @leaf
 def parameter(rng):
-    # What 01 says would be 0 / 0, and the Rust holds still.
+    # A change of length 0 that waits: no 0 / 0, the Rust holds the value.
     yield f"0 | set -6000 0 1 0 0 0 0 | update {double_bits(0.0005)} {double_bits(1.0)}"
     while True:
         trace = Trace(rng)

@@ -1,4 +1,4 @@
-//! kira with document 01's table in the place of `powf`.
+//! kira with our gain table in the place of `powf`.
 
 // kira's text uses all of itself only where all of it is there.
 #![allow(unused, unexpected_cfgs, private_interfaces)]

@@ -1,5 +1,5 @@
-//! A scene file, its tables and the questions asked of it, written from
-//! document 01 and from nothing else.
+//! A scene file, its tables and the questions asked of it, written from their
+//! wording (docs/QUESTIONS.md) and from nothing else.
 
 mod format;
 mod questions;

@@ -1,4 +1,4 @@
-//! The questions, in document 01's words and order.
+//! The questions, in the words and the order of docs/QUESTIONS.md.
 
 use std::collections::HashSet;
 

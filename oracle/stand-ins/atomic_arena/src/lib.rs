@@ -1,6 +1,6 @@
 //! Stand-in for the crate `atomic_arena`, as far as kira's text uses it.
 //!
-//! Iteration is newest first: document 01 decides that order. Keys are given
+//! Iteration is newest first, which is our choice. Keys are given
 //! out in turn and never reused, since nothing is removed in our scenes.
 
 use std::{
