@@ -49,6 +49,40 @@ FEATURES = {
 }
 
 
+def corner_scene(inside, samples):
+    """Tracks by name, four of which are silent, each at a corner of the words: `deep` is muted at depth 4 and has a volume order of exactly -60 dB,
+    `muted` is not held, `held` is at depth 3 and not muted, `below` is held below a track that is paused itself. `inside` has the lines that may
+    differ: tracks by (name, parent), and sounds by (track, first, count)."""
+    outside = [("a", None, 0), ("b", "a", 0), ("c", "b", 0), ("deep", "c", -60000), ("muted", "a", -60000), ("held", "b", 0), ("paused", None, 0)]
+    outside.append(("below", "paused", 0))
+    lines = []
+    for name, parent, volume in outside:
+        lines += [(name, parent, volume)] + [(inner, name, -300) for inner, owner in inside["tracks"] if owner == name]
+    line = {name: i for i, (name, _, _) in enumerate(lines, 1)} | {None: 0}
+    sounds = [("a", 0, 6), ("c", 2, 4), ("b", 1, 5)] + inside["sounds"]
+    pauses = [[0, 4, line[name], 0, 0, 0, 0, 0, 0, 0] for name in ("held", "below", "paused")]
+    volumes = [[1, 1, line["deep"], -60000, 0, 0, 0, 2, 0, 0], [0, 1, line["muted"], -61000, 0, 1, 0, 1, 1, 2], [1, 0, 0, -3000, 0, 0, 0, 1, 0, 0]]
+    made = pairs.Scene(
+        head=[[8192, 2, 4, 8, 3, 0]],
+        tracks=[[line[parent], volume] for _, parent, volume in lines],
+        sends=[[0]],
+        routes=[[line["b"], 1, -2000], [line["muted"], 1, 0]],
+        sounds=[[line[track], first, count] for track, first, count in sounds],
+        orders=pauses + volumes,
+        samples=[pairs.bits(x / 16) for x in samples],
+    )
+    return made, [line[name] for name in ("deep", "muted", "held", "below")]
+
+
+def corners():
+    """A pair with all of them at once, so that a definition that asks more of silent tracks than it should says no to it."""
+    heard = [8, -4, 3, 5, -7, 2, 6, 1, -2, 4, 9, -3]
+    one = corner_scene({"tracks": [("x", "muted")], "sounds": [("deep", 0, 4), ("x", 1, 3), ("held", 2, 2)]}, heard + [1, 1])
+    tracks = [("x", "muted"), ("y", "held"), ("z", "below")]
+    other = corner_scene({"tracks": tracks, "sounds": [("muted", 5, 2), ("y", 6, 2), ("z", 0, 6), ("below", 6, 1)]}, heard + [16, -16, 15, 7])
+    return pairs.Pair([one[0], other[0]], [one[1], other[1]])
+
+
 def stored():
     """(name, pair) of the alike ones, and of the control pairs."""
     found, counts = [], dict.fromkeys(FEATURES, 0)
@@ -65,6 +99,8 @@ def stored():
                 counts[name] += 1
             found.append((f"pair{n}", pair))
     assert min(counts.values()) >= EACH and len(found) >= 12, counts
+    found.append(("corners", corners()))
+    assert pairs.alike(found[-1][1])
     controls = []
     for kind in pairs.CONTROLS:
         best = None

@@ -94,8 +94,15 @@ pair1870 =
       other = record { tables = ((raised 48000 ∷ raised 3 ∷ raised 255 ∷ raised 1 ∷ raised 1 ∷ raisedMinus 6000 ∷ []) ∷ []) ∷ ((raised 1 ∷ raised 41 ∷ raised 1 ∷ []) ∷ []) ∷ ((raised 0 ∷ raisedMinus 96000 ∷ []) ∷ (raised 1 ∷ raisedMinus 3000 ∷ []) ∷ (raised 1 ∷ raisedMinus 20000 ∷ []) ∷ (raised 0 ∷ raisedMinus 1 ∷ []) ∷ (raised 0 ∷ raisedMinus 81222 ∷ []) ∷ (raised 2 ∷ raised 0 ∷ []) ∷ []) ∷ ((raised 1 ∷ []) ∷ (raised 4004 ∷ []) ∷ (raisedMinus 20000 ∷ []) ∷ []) ∷ ((raised 5 ∷ raised 1 ∷ raised 1 ∷ []) ∷ (raised 5 ∷ raised 3 ∷ raisedMinus 96000 ∷ []) ∷ (raised 1 ∷ raised 1 ∷ raisedMinus 20000 ∷ []) ∷ (raised 4 ∷ raised 1 ∷ raisedMinus 47892 ∷ []) ∷ (raised 4 ∷ raised 2 ∷ raised 0 ∷ []) ∷ (raised 4 ∷ raised 3 ∷ raised 18000 ∷ []) ∷ (raised 1 ∷ raised 3 ∷ raisedMinus 12314 ∷ []) ∷ []) ∷ ([]) ∷ ((raised 0 ∷ raised 3 ∷ raised 1 ∷ raisedMinus 20000 ∷ raised 0 ∷ raised 0 ∷ raised 0 ∷ raised 0 ∷ raised 1 ∷ raised 3 ∷ []) ∷ (raised 0 ∷ raised 1 ∷ raised 3 ∷ raised 0 ∷ raised 0 ∷ raised 3 ∷ raised 0 ∷ raised 15 ∷ raised 3 ∷ raised 8 ∷ []) ∷ []) ∷ []; bits = 3178144608 ∷ 2147483648 ∷ []; chosen = 0 ∷ 4 ∷ [] };
     }
 
+abbrev pub corners : Pair
+corners =
+    record {
+      one = record { tables = ((raised 8192 ∷ raised 2 ∷ raised 4 ∷ raised 8 ∷ raised 3 ∷ raised 0 ∷ []) ∷ []) ∷ ([]) ∷ ((raised 0 ∷ raised 0 ∷ []) ∷ (raised 1 ∷ raised 0 ∷ []) ∷ (raised 2 ∷ raised 0 ∷ []) ∷ (raised 3 ∷ raisedMinus 60000 ∷ []) ∷ (raised 1 ∷ raisedMinus 60000 ∷ []) ∷ (raised 5 ∷ raisedMinus 300 ∷ []) ∷ (raised 2 ∷ raised 0 ∷ []) ∷ (raised 0 ∷ raised 0 ∷ []) ∷ (raised 8 ∷ raised 0 ∷ []) ∷ []) ∷ ((raised 0 ∷ []) ∷ []) ∷ ((raised 2 ∷ raised 1 ∷ raisedMinus 2000 ∷ []) ∷ (raised 5 ∷ raised 1 ∷ raised 0 ∷ []) ∷ []) ∷ ((raised 1 ∷ raised 0 ∷ raised 6 ∷ []) ∷ (raised 3 ∷ raised 2 ∷ raised 4 ∷ []) ∷ (raised 2 ∷ raised 1 ∷ raised 5 ∷ []) ∷ (raised 4 ∷ raised 0 ∷ raised 4 ∷ []) ∷ (raised 6 ∷ raised 1 ∷ raised 3 ∷ []) ∷ (raised 7 ∷ raised 2 ∷ raised 2 ∷ []) ∷ []) ∷ ((raised 0 ∷ raised 4 ∷ raised 7 ∷ raised 0 ∷ raised 0 ∷ raised 0 ∷ raised 0 ∷ raised 0 ∷ raised 0 ∷ raised 0 ∷ []) ∷ (raised 0 ∷ raised 4 ∷ raised 9 ∷ raised 0 ∷ raised 0 ∷ raised 0 ∷ raised 0 ∷ raised 0 ∷ raised 0 ∷ raised 0 ∷ []) ∷ (raised 0 ∷ raised 4 ∷ raised 8 ∷ raised 0 ∷ raised 0 ∷ raised 0 ∷ raised 0 ∷ raised 0 ∷ raised 0 ∷ raised 0 ∷ []) ∷ (raised 1 ∷ raised 1 ∷ raised 4 ∷ raisedMinus 60000 ∷ raised 0 ∷ raised 0 ∷ raised 0 ∷ raised 2 ∷ raised 0 ∷ raised 0 ∷ []) ∷ (raised 0 ∷ raised 1 ∷ raised 5 ∷ raisedMinus 61000 ∷ raised 0 ∷ raised 1 ∷ raised 0 ∷ raised 1 ∷ raised 1 ∷ raised 2 ∷ []) ∷ (raised 1 ∷ raised 0 ∷ raised 0 ∷ raisedMinus 3000 ∷ raised 0 ∷ raised 0 ∷ raised 0 ∷ raised 1 ∷ raised 0 ∷ raised 0 ∷ []) ∷ []) ∷ []; bits = 1056964608 ∷ 3196059648 ∷ 1044381696 ∷ 1050673152 ∷ 3202351104 ∷ 1040187392 ∷ 1052770304 ∷ 1031798784 ∷ 3187671040 ∷ 1048576000 ∷ 1058013184 ∷ 3191865344 ∷ 1031798784 ∷ 1031798784 ∷ []; chosen = 3 ∷ 4 ∷ 6 ∷ 8 ∷ [] };
+      other = record { tables = ((raised 8192 ∷ raised 2 ∷ raised 4 ∷ raised 8 ∷ raised 3 ∷ raised 0 ∷ []) ∷ []) ∷ ([]) ∷ ((raised 0 ∷ raised 0 ∷ []) ∷ (raised 1 ∷ raised 0 ∷ []) ∷ (raised 2 ∷ raised 0 ∷ []) ∷ (raised 3 ∷ raisedMinus 60000 ∷ []) ∷ (raised 1 ∷ raisedMinus 60000 ∷ []) ∷ (raised 5 ∷ raisedMinus 300 ∷ []) ∷ (raised 2 ∷ raised 0 ∷ []) ∷ (raised 7 ∷ raisedMinus 300 ∷ []) ∷ (raised 0 ∷ raised 0 ∷ []) ∷ (raised 9 ∷ raised 0 ∷ []) ∷ (raised 10 ∷ raisedMinus 300 ∷ []) ∷ []) ∷ ((raised 0 ∷ []) ∷ []) ∷ ((raised 2 ∷ raised 1 ∷ raisedMinus 2000 ∷ []) ∷ (raised 5 ∷ raised 1 ∷ raised 0 ∷ []) ∷ []) ∷ ((raised 1 ∷ raised 0 ∷ raised 6 ∷ []) ∷ (raised 3 ∷ raised 2 ∷ raised 4 ∷ []) ∷ (raised 2 ∷ raised 1 ∷ raised 5 ∷ []) ∷ (raised 5 ∷ raised 5 ∷ raised 2 ∷ []) ∷ (raised 8 ∷ raised 6 ∷ raised 2 ∷ []) ∷ (raised 11 ∷ raised 0 ∷ raised 6 ∷ []) ∷ (raised 10 ∷ raised 6 ∷ raised 1 ∷ []) ∷ []) ∷ ((raised 0 ∷ raised 4 ∷ raised 7 ∷ raised 0 ∷ raised 0 ∷ raised 0 ∷ raised 0 ∷ raised 0 ∷ raised 0 ∷ raised 0 ∷ []) ∷ (raised 0 ∷ raised 4 ∷ raised 10 ∷ raised 0 ∷ raised 0 ∷ raised 0 ∷ raised 0 ∷ raised 0 ∷ raised 0 ∷ raised 0 ∷ []) ∷ (raised 0 ∷ raised 4 ∷ raised 9 ∷ raised 0 ∷ raised 0 ∷ raised 0 ∷ raised 0 ∷ raised 0 ∷ raised 0 ∷ raised 0 ∷ []) ∷ (raised 1 ∷ raised 1 ∷ raised 4 ∷ raisedMinus 60000 ∷ raised 0 ∷ raised 0 ∷ raised 0 ∷ raised 2 ∷ raised 0 ∷ raised 0 ∷ []) ∷ (raised 0 ∷ raised 1 ∷ raised 5 ∷ raisedMinus 61000 ∷ raised 0 ∷ raised 1 ∷ raised 0 ∷ raised 1 ∷ raised 1 ∷ raised 2 ∷ []) ∷ (raised 1 ∷ raised 0 ∷ raised 0 ∷ raisedMinus 3000 ∷ raised 0 ∷ raised 0 ∷ raised 0 ∷ raised 1 ∷ raised 0 ∷ raised 0 ∷ []) ∷ []) ∷ []; bits = 1056964608 ∷ 3196059648 ∷ 1044381696 ∷ 1050673152 ∷ 3202351104 ∷ 1040187392 ∷ 1052770304 ∷ 1031798784 ∷ 3187671040 ∷ 1048576000 ∷ 1058013184 ∷ 3191865344 ∷ 1065353216 ∷ 3212836864 ∷ 1064304640 ∷ 1054867456 ∷ []; chosen = 3 ∷ 4 ∷ 6 ∷ 9 ∷ [] };
+    }
+
 abbrev pub alikePairs : List Pair
-alikePairs = pair14 ∷ pair183 ∷ pair227 ∷ pair258 ∷ pair315 ∷ pair399 ∷ pair531 ∷ pair568 ∷ pair575 ∷ pair776 ∷ pair1250 ∷ pair1767 ∷ pair1870 ∷ []
+alikePairs = pair14 ∷ pair183 ∷ pair227 ∷ pair258 ∷ pair315 ∷ pair399 ∷ pair531 ∷ pair568 ∷ pair575 ∷ pair776 ∷ pair1250 ∷ pair1767 ∷ pair1870 ∷ corners ∷ []
 
 abbrev pub mutedAboveSilence : Pair
 mutedAboveSilence =

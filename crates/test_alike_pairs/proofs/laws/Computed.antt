@@ -11,7 +11,7 @@ use Rattle.noninterference.specs.Removed.{newLine, insideWithin, inside, remove
 use Rattle.noninterference.specs.Silent.{silentVolume, names, muted, held, pausesOrResumes, isHolding}
 use Rattle.noninterference.specs.Alike.{same, sameLines, unplaced, sameTables, chosenLeft, framesLeft, sameBits, silentChoice, alike}
 use Rattle.test_alike_pairs.specs.Side.{choiceOf, alikePair}
-use Rattle.test_alike_pairs.specs.Pairs.{pair14, pair183, pair227, pair258, pair315, pair399, pair531, pair568, pair575, pair776, pair1250, pair1767, pair1870, mutedAboveSilence, loudVolumeOrder, sendFromBelow, pauseWithMillis, pauseWithWhen, pauseInBlock1, secondPause, resume, outsideFrame, alikePairs, controlPairs}
+use Rattle.test_alike_pairs.specs.Pairs.{pair14, pair183, pair227, pair258, pair315, pair399, pair531, pair568, pair575, pair776, pair1250, pair1767, pair1870, corners, mutedAboveSilence, loudVolumeOrder, sendFromBelow, pauseWithMillis, pauseWithWhen, pauseInBlock1, secondPause, resume, outsideFrame, alikePairs, controlPairs}
 use Rattle.test_alike_pairs.specs.Computed.{Each}
 
 pair14-alike : T (alikePair pair14)
@@ -66,6 +66,10 @@ pair1870-alike : T (alikePair pair1870)
 unfolding alikePair choiceOf alike sameTables sameLines same unplaced chosenLeft framesLeft sameBits silentChoice toBits ofBits leftTables linesLeft keptOf changed renumbered renumberedOrder newLine rank insideWithin inside removedTrack removedRoute removedSound removedOrder namesRemoved parentOf muted silentVolume names held pausesOrResumes isHolding every upto
 pair1870-alike = tt
 
+corners-alike : T (alikePair corners)
+unfolding alikePair choiceOf alike sameTables sameLines same unplaced chosenLeft framesLeft sameBits silentChoice toBits ofBits leftTables linesLeft keptOf changed renumbered renumberedOrder newLine rank insideWithin inside removedTrack removedRoute removedSound removedOrder namesRemoved parentOf muted silentVolume names held pausesOrResumes isHolding every upto
+corners-alike = tt
+
 mutedAboveSilence-not : T (not (alikePair mutedAboveSilence))
 unfolding alikePair choiceOf alike sameTables sameLines same unplaced chosenLeft framesLeft sameBits silentChoice toBits ofBits leftTables linesLeft keptOf changed renumbered renumberedOrder newLine rank insideWithin inside removedTrack removedRoute removedSound removedOrder namesRemoved parentOf muted silentVolume names held pausesOrResumes isHolding every upto
 mutedAboveSilence-not = tt
@@ -103,7 +107,7 @@ unfolding alikePair choiceOf alike sameTables sameLines same unplaced chosenLeft
 outsideFrame-not = tt
 
 pub all-alike : Each alikePair alikePairs
-all-alike = (pair14-alike, (pair183-alike, (pair227-alike, (pair258-alike, (pair315-alike, (pair399-alike, (pair531-alike, (pair568-alike, (pair575-alike, (pair776-alike, (pair1250-alike, (pair1767-alike, (pair1870-alike, tt)))))))))))))
+all-alike = (pair14-alike, (pair183-alike, (pair227-alike, (pair258-alike, (pair315-alike, (pair399-alike, (pair531-alike, (pair568-alike, (pair575-alike, (pair776-alike, (pair1250-alike, (pair1767-alike, (pair1870-alike, (corners-alike, tt))))))))))))))
 
 pub no-control : Each (λ p. not (alikePair p)) controlPairs
 no-control = (mutedAboveSilence-not, (loudVolumeOrder-not, (sendFromBelow-not, (pauseWithMillis-not, (pauseWithWhen-not, (pauseInBlock1-not, (secondPause-not, (resume-not, (outsideFrame-not, tt)))))))))
