@@ -9,10 +9,12 @@ each pair of tools/alike_pairs.py and of some generated alike pairs that sound. 
 every kind; and unless the two outputs of each alike pair are equal in every bit, and those of each control pair differ.
 """
 import pathlib
+import struct
 import subprocess
 import sys
 
 import alike_pairs
+import scene_vectors
 from case_stream import answers, as_library, joined, split, store
 
 ROOT = pathlib.Path(__file__).resolve().parent.parent
@@ -20,6 +22,7 @@ CRATE = ROOT / "crates/test_render"
 SEED, MADE, WANTED = 8, 6000, 170
 PAIRS_MADE, PAIRS_WANTED = 800, 12
 ROOM = 500000  # bytes that the program can read
+HELD = struct.unpack("<I", struct.pack("<f", 0.75))[0]  # what the program's output holds before a call, so that a refusal that clears it is seen
 
 
 def tables_of(scene):
@@ -85,15 +88,25 @@ def differing(answered):
     return sum(one != other for one, other in zip(answered[::2], answered[1::2]))
 
 
+def refused():
+    """For each number from 1 to 10 the first three small inputs that get it, with an output of some samples: it must keep what it held."""
+    picked = []
+    for number in range(1, 11):
+        found = [v for v in scene_vectors.VECTORS if v[1] == number and len(v[2]) <= 2000 and 0 < v[4] <= 200][:3]
+        assert found, number
+        picked += [(1, text, struct.pack(f"<{len(samples)}f", *samples), length) for _, _, text, samples, length in found]
+    return picked
+
+
 def main():
     oracle = sys.argv[1]
-    groups = [chosen(oracle), *paired(oracle)]
+    groups = [chosen(oracle), *paired(oracle), refused()]
     by_group = [answers([oracle, "batch"], group) for group in groups]
-    alike, control = (len(group) // 2 for group in groups[1:])
-    assert [differing(group) for group in by_group[1:]] == [0, control]
+    alike, control = (len(group) // 2 for group in groups[1:3])
+    assert [differing(group) for group in by_group[1:3]] == [0, control]
+    assert {number for number, _ in by_group[3]} == set(range(1, 11))
     cases, answered = sum(groups, []), sum(by_group, [])
-    # on a refusal the program's buffer holds zeros
-    lines = [n for case, (number, samples) in zip(cases, answered) for n in (number, *(samples if number == 0 else [0] * case[3]))]
+    lines = [n for case, (number, samples) in zip(cases, answered) for n in (number, *(samples if number == 0 else [HELD] * case[3]))]
     files = {"stdin": joined(cases), "stdout": "".join(f"{n}\n" for n in lines).encode()}
     assert len(files["stdin"]) <= ROOM, len(files["stdin"])
     store(CRATE, files, sys.argv[2:] == ["--check"])

@@ -1,4 +1,4 @@
-// Reads cases from standard input (`vectors`, cases.rt), renders each and prints its number and the bits of its output, a
+// Reads cases from standard input (`test_replay`, cases.rt), renders each and prints its number and the bits of its output, a
 // line for each.
 ghost use Prim.Native.Nat.{_≤_};
 ghost use lib.ListN.{length};
@@ -27,7 +27,8 @@ fn print_render(file: &[u8], samples: &[f32], room: &mut [f32], length: usize) {
 fn render_case(file: &[u8], bytes: &[u8], length: usize) {
     let mut samples = [0.0f32; 8192];
     let n = test_replay::samples_of(bytes, &mut samples);
-    let mut output = [0.0f32; 8192];
+    // A refusal leaves these as they are.
+    let mut output = [0.75f32; 8192];
     print_render(file, &samples[..n], &mut output, length);
 }
 
