@@ -54,16 +54,12 @@ sendsNew s = changed (λ i x. parameterNew (sendLine s i .volume)) (s .«send_co
 unfoldable pub routesNew : Scene → List Parameter
 routesNew s = changed (λ r x. parameterNew (routeLine s r .volume)) (s .«route_count») (replicate routeLines emptyParameter)
 
+-- a mixer from its parts
+abbrev pub mixerOf : Clocks → Parameter → List Track → List Parameter → List Parameter → List ℕ → Mixer
+mixerOf clocks main tracks sends routes played = record { clocks = clocks; «main_volume» = main; tracks = tracks; sends = sends; routes = routes; played = played }
+
 unfoldable pub mixerNew : Scene → Mixer
-mixerNew s =
-    record {
-      clocks = clocksNew s;
-      «main_volume» = parameterNew (s .head .volume);
-      tracks = tracksNew s;
-      sends = sendsNew s;
-      routes = routesNew s;
-      played = replicate soundLines 0;
-    }
+mixerNew s = mixerOf (clocksNew s) (parameterNew (s .head .volume)) (tracksNew s) (sendsNew s) (routesNew s) (replicate soundLines 0)
 
 -- ---- states by their lines. Past an array's end stands what the language gives there, which nothing reads.
 
@@ -112,11 +108,5 @@ unfoldable pub mixerUpdate : Scene → Float → Mixer → Mixer
 mixerUpdate s dt m =
     let clocks = clocksUpdated (m .clocks) dt in
     let tracks = tracksUpdate (s .tracks) (s .«track_count») dt clocks (m .tracks) in
-    record {
-      clocks = clocks;
-      «main_volume» = parameterUpdate (m .«main_volume») dt clocks .parameter;
-      tracks = tracks;
-      sends = sendsUpdate (s .«send_count») dt clocks (m .sends);
-      routes = routesUpdate (s .routes) (s .«route_count») dt clocks tracks (m .routes);
-      played = m .played;
-    }
+    mixerOf clocks (parameterUpdate (m .«main_volume») dt clocks .parameter) tracks (sendsUpdate (s .«send_count») dt clocks (m .sends))
+    (routesUpdate (s .routes) (s .«route_count») dt clocks tracks (m .routes)) (m .played)

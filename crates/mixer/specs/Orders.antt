@@ -13,52 +13,24 @@ use Rattle.mixer.specs.declared.sub.Track.{Track}
 use Rattle.mixer.specs.declared.mixer.Mixer.{Mixer}
 use Rattle.mixer.specs.Sub.{trackSet, trackPause, trackResume}
 use Rattle.accepted.specs.Lines.{orderLine}
-use Rattle.mixer.specs.Mixer.{stateOf, parameterOf}
+use Rattle.mixer.specs.Mixer.{mixerOf, stateOf, parameterOf}
 use Rattle.order_lines.specs.Orders.{tweenOf, resumeTweenOf, counts}
 
 unfoldable pub mapTrack : ℕ → (Track → Track) → Mixer → Mixer
 mapTrack line f m =
-    record {
-      clocks = m .clocks;
-      «main_volume» = m .«main_volume»;
-      tracks = set (m .tracks) (line - 1) (f (stateOf (m .tracks) (line - 1)));
-      sends = m .sends;
-      routes = m .routes;
-      played = m .played;
-    }
+    mixerOf (m .clocks) (m .«main_volume») (set (m .tracks) (line - 1) (f (stateOf (m .tracks) (line - 1)))) (m .sends) (m .routes) (m .played)
 
 unfoldable pub mapSend : ℕ → (Parameter → Parameter) → Mixer → Mixer
 mapSend line f m =
-    record {
-      clocks = m .clocks;
-      «main_volume» = m .«main_volume»;
-      tracks = m .tracks;
-      sends = set (m .sends) (line - 1) (f (parameterOf (m .sends) (line - 1)));
-      routes = m .routes;
-      played = m .played;
-    }
+    mixerOf (m .clocks) (m .«main_volume») (m .tracks) (set (m .sends) (line - 1) (f (parameterOf (m .sends) (line - 1)))) (m .routes) (m .played)
 
 unfoldable pub mapRoute : ℕ → (Parameter → Parameter) → Mixer → Mixer
 mapRoute line f m =
-    record {
-      clocks = m .clocks;
-      «main_volume» = m .«main_volume»;
-      tracks = m .tracks;
-      sends = m .sends;
-      routes = set (m .routes) (line - 1) (f (parameterOf (m .routes) (line - 1)));
-      played = m .played;
-    }
+    mixerOf (m .clocks) (m .«main_volume») (m .tracks) (m .sends) (set (m .routes) (line - 1) (f (parameterOf (m .routes) (line - 1)))) (m .played)
 
 unfoldable pub mapMain : (Parameter → Parameter) → Mixer → Mixer
 mapMain f m =
-    record {
-      clocks = m .clocks;
-      «main_volume» = f (m .«main_volume»);
-      tracks = m .tracks;
-      sends = m .sends;
-      routes = m .routes;
-      played = m .played;
-    }
+    mixerOf (m .clocks) (f (m .«main_volume»)) (m .tracks) (m .sends) (m .routes) (m .played)
 
 -- volumes and pauses
 unfoldable pub orderedBy : OrderKind → OrderLine → Mixer → Mixer

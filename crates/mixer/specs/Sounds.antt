@@ -9,7 +9,7 @@ use Rattle.scene.specs.declared.scene.Scene.{Scene}
 use Rattle.scene.specs.declared.scene.SoundLine.{SoundLine}
 use Rattle.mixer.specs.declared.sub.Track.{Track}
 use Rattle.mixer.specs.declared.mixer.Mixer.{Mixer}
-use Rattle.mixer.specs.Mixer.{liveAbove}
+use Rattle.mixer.specs.Mixer.{mixerOf, liveAbove}
 use Rattle.accepted.specs.Lines.{absentSoundLine}
 
 -- n frames more, and its count at most
@@ -29,11 +29,4 @@ playedOn lines count tracks n played = changed (λ k done. playedAfter tracks (g
 
 unfoldable pub soundsPlayed : Scene → ℕ → Mixer → Mixer
 soundsPlayed s n m =
-    record {
-      clocks = m .clocks;
-      «main_volume» = m .«main_volume»;
-      tracks = m .tracks;
-      sends = m .sends;
-      routes = m .routes;
-      played = playedOn (s .sounds) (s .«sound_count») (m .tracks) n (m .played);
-    }
+    mixerOf (m .clocks) (m .«main_volume») (m .tracks) (m .sends) (m .routes) (playedOn (s .sounds) (s .«sound_count») (m .tracks) n (m .played))

@@ -2,7 +2,8 @@
 ghost use mathlib.Core.Path.{_≡_};
 ghost use Prim.Native.Nat.{_≤_};
 ghost use Rattle.rounding.specs.Duration.{InAnHour};
-ghost use Rattle.parameter.specs.Parameter.{parameterNew, interpolatedValue, parameterSet, tweenStart, tweenMove, tweenUpdate, newRawValue, parameterUpdate};
+ghost use Rattle.parameter.specs.Parameter.{parameterNew, interpolatedValue, parameterSet, tweenStart, tweenMove, tweenUpdate, newRawValue};
+ghost use Rattle.parameter.specs.Parameter.{parameterUpdate};
 use clock::Clocks;
 use clock::WhenToStart;
 use decibels::Decibels;

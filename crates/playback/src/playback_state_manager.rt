@@ -3,7 +3,8 @@
 ghost use mathlib.Core.Path.{_≡_};
 ghost use Prim.Native.Nat.{_≤_};
 ghost use Rattle.rounding.specs.Duration.{InAnHour};
-ghost use Rattle.playback.specs.PlaybackStateManager.{isAdvancing, isStopped, playbackNew, interpolatedFadeVolume, playbackPause, resumed, playbackResume, unchanged, afterFade, waitingUpdate, stateUpdate, playbackUpdate};
+ghost use Rattle.playback.specs.PlaybackStateManager.{isAdvancing, isStopped, playbackNew, interpolatedFadeVolume, playbackPause, resumed};
+ghost use Rattle.playback.specs.PlaybackStateManager.{playbackResume, unchanged, afterFade, waitingUpdate, stateUpdate, playbackUpdate};
 ghost use Rattle.tween.specs.StartTime.{startTimeUpdate};
 use clock::Clocks;
 use decibels::Decibels;
