@@ -176,13 +176,13 @@ use Rattle.scene_tables.specs.Bytes.{every}
 use Rattle.scene_questions.specs.Questions.{parentOf}
 use Rattle.noninterference.specs.Removed.{newLine, insideWithin, inside, removedTrack, namesRemoved, removedRoute, removedSound, removedOrder, leftTables, renumbered, renumberedOrder, linesLeft}
 use Rattle.noninterference.specs.Silent.{silentVolume, names, muted, held, pausesOrResumes, isHolding}
-use Rattle.noninterference.specs.Alike.{same, sameLines, unplaced, sameTables, chosenLeft, framesLeft, sameBits, silentChoice, alike}
+use Rattle.noninterference.specs.Alike.{same, unplaced, sameTables, chosenLeft, framesLeft, sameBits, silentChoice, alike}
 use Rattle.test_alike_pairs.specs.Side.{choiceOf, alikePair}
 use Rattle.test_alike_pairs.specs.Pairs.{PAIRS}
 use Rattle.test_alike_pairs.specs.Computed.{Each}
 """
 UNFOLDED = (
-    "alikePair choiceOf alike sameTables sameLines same unplaced chosenLeft framesLeft sameBits silentChoice toBits ofBits leftTables linesLeft keptOf changed "
+    "alikePair choiceOf alike sameTables same unplaced chosenLeft framesLeft sameBits silentChoice toBits ofBits leftTables linesLeft keptOf changed "
     "renumbered renumberedOrder newLine rank insideWithin inside removedTrack removedRoute removedSound removedOrder namesRemoved parentOf muted silentVolume names "
     "held pausesOrResumes isHolding every upto"
 )

@@ -5,6 +5,7 @@ use Prim.Native.Nat.{ℕ, _+_, _*_, _≤_, _<_}
 use lib.Dec.{T}
 use lib.ListN.{getD, length}
 use lib.Ieee.{Float, nan, binary64, fits}
+use Rattle.limits.specs.Limits.{clockLines, trackLines, sendLines, routeLines, soundLines, orderLines}
 use Rattle.laws.specs.DecibelRange.{TargetRange}
 use Rattle.laws.specs.FloatBounds.{Within}
 use Rattle.clock.specs.ClockSpeed.{asTicksPerSecond, allowedSpeed}
@@ -48,18 +49,18 @@ pub record SceneOk (s : Scene) : Type 0 where
   pub blocks : (1 ≤ s .head .blocks) × (s .head .blocks ≤ 1024)
   pub volume : TargetRange (s .head .volume .0)
   -- how many lines, and how many places
-  pub clockCount : s .«clock_count» ≤ 8
-  pub trackCount : s .«track_count» ≤ 32
-  pub sendCount : s .«send_count» ≤ 8
-  pub routeCount : s .«route_count» ≤ 64
-  pub soundCount : s .«sound_count» ≤ 64
-  pub orderCount : s .«order_count» ≤ 128
-  pub clockPlaces : length (s .clocks) ≡ 8
-  pub trackPlaces : length (s .tracks) ≡ 32
-  pub sendPlaces : length (s .sends) ≡ 8
-  pub routePlaces : length (s .routes) ≡ 64
-  pub soundPlaces : length (s .sounds) ≡ 64
-  pub orderPlaces : length (s .orders) ≡ 128
+  pub clockCount : s .«clock_count» ≤ clockLines
+  pub trackCount : s .«track_count» ≤ trackLines
+  pub sendCount : s .«send_count» ≤ sendLines
+  pub routeCount : s .«route_count» ≤ routeLines
+  pub soundCount : s .«sound_count» ≤ soundLines
+  pub orderCount : s .«order_count» ≤ orderLines
+  pub clockPlaces : length (s .clocks) ≡ clockLines
+  pub trackPlaces : length (s .tracks) ≡ trackLines
+  pub sendPlaces : length (s .sends) ≡ sendLines
+  pub routePlaces : length (s .routes) ≡ routeLines
+  pub soundPlaces : length (s .sounds) ≡ soundLines
+  pub orderPlaces : length (s .orders) ≡ orderLines
   -- the lines
   pub clocks : (i : ℕ) → i < s .«clock_count» → T (fits binary64 (asTicksPerSecond (clockLine s i .speed))) × T (allowedSpeed (clockLine s i .speed))
   pub tracks : (t : ℕ) → t < s .«track_count» → TargetRange (trackLine s t .volume .0)

@@ -1,1 +1,1 @@
-// What an accepted scene gives the layers above; see specs/. There is no code here.
+// What an accepted scene gives the layers above; see specs/ and proofs/laws/. There is no code here.

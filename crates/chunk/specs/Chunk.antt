@@ -4,8 +4,9 @@ use mathlib.Core.Bool.{Bool, false}
 use mathlib.Core.List.{List}
 use Prim.Native.Nat.{ℕ, _+_, _*_, _≤_, _<_}
 use lib.IntN.{pos}
-use lib.ListN.{getD, length}
+use lib.ListN.{getD, length, replicate}
 use lib.Ieee.{Float, nan, binary32, binary64, div, mul, eq, ofInt}
+use Rattle.limits.specs.Limits.{trackPlaces, sendLines, routeLines, soundLines, chunkFramesMost}
 use Rattle.decibels.specs.declared.decibels.Amplitude.{Amplitude}
 use Rattle.decibels.specs.Decibels.{amplitude}
 use Rattle.laws.specs.Loop.{changed}
@@ -73,10 +74,9 @@ partAt i n = narrowed (amountAt i n)
 abbrev pub withFactors : Level → ℕ → List Float → List Float
 withFactors l n factors = changed (λ i x. levelAmplitude l (amountAt i n) .0) n factors
 
--- the parts of a chunk of n frames
-pub record IsParts (n : ℕ) (parts : List Float) : Type 0 where
-  pub long : length parts ≡ 256
-  pub part : (i : ℕ) → i < n → getD parts i nan ≡ partAt i n
+-- the parts of a chunk of n frames, and zeros behind them
+unfoldable pub partsOf : ℕ → List Float
+partsOf n = changed (λ i x. partAt i n) n (replicate chunkFramesMost (ofInt binary32 (pos 0)))
 
 -- both values of a level lie in -97..19, so that what is read between them lies in -98..20
 pub record LevelInRange (l : Level) : Type 0 where
@@ -85,23 +85,23 @@ pub record LevelInRange (l : Level) : Type 0 where
 
 -- the tables have as many places as their arrays
 pub record ChunkPlaces (c : Chunk) : Type 0 where
-  pub tracks : length (c .tracks) ≡ 32
-  pub sends : length (c .sends) ≡ 8
-  pub routes : length (c .routes) ≡ 64
-  pub sounds : length (c .sounds) ≡ 64
+  pub tracks : length (c .tracks) ≡ trackPlaces
+  pub sends : length (c .sends) ≡ sendLines
+  pub routes : length (c .routes) ≡ routeLines
+  pub sounds : length (c .sounds) ≡ soundLines
 
 pub record ChunkOk (c : Chunk) (samples : List Float) : Type 0 where
-  pub short : c .frames ≤ 256
-  pub tracks : c .«track_count» ≤ 32
-  pub sends : c .«send_count» ≤ 8
-  pub routes : c .«route_count» ≤ 64
-  pub sounds : c .«sound_count» ≤ 64
+  pub short : c .frames ≤ chunkFramesMost
+  pub tracks : c .«track_count» ≤ trackPlaces
+  pub sends : c .«send_count» ≤ sendLines
+  pub routes : c .«route_count» ≤ routeLines
+  pub sounds : c .«sound_count» ≤ soundLines
   pub volumes : (j : ℕ) → j < c .«track_count» → LevelInRange (trackRow c j .volume)
   pub fades : (j : ℕ) → j < c .«track_count» → LevelInRange (trackRow c j .fade)
   pub sendLevels : (s : ℕ) → s < c .«send_count» → LevelInRange (sendRow c s)
   pub mainLevel : LevelInRange (c .main)
-  -- a route's send track is a line from 1 to 8
-  pub routed : (r : ℕ) → r < c .«route_count» → (1 ≤ routeRow c r .send) × (routeRow c r .send ≤ 8)
+  -- a route's send track is a line, counted from 1
+  pub routed : (r : ℕ) → r < c .«route_count» → (1 ≤ routeRow c r .send) × (routeRow c r .send ≤ sendLines)
   -- what a sound has left lies within the samples
   pub held : (k : ℕ) → k < c .«sound_count» → 2 * (soundRow c k .start + soundRow c k .left) ≤ length samples
   pub arrays : ChunkPlaces c

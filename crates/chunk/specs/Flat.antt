@@ -1,10 +1,11 @@
--- The tables that mixing reads, as two flat arrays of numbers. Such an array can be lent, where a struct is copied at each call.
+-- The tables that mixing reads, as three flat arrays of numbers. Such an array can be lent, where a struct is copied at each call.
 use mathlib.Core.Bool.{Bool, cond}
 use mathlib.Core.List.{List, [], _∷_, _++_}
 use Prim.Native.Nat.{ℕ, _+_, _*_}
 use lib.Dec.{eqb}
 use lib.ListN.{getD}
 use lib.Ieee.{Float, nan}
+use Rattle.limits.specs.Limits.{trackPlaces, sendLines, routeLines, soundLines}
 use Rattle.laws.specs.Pieces.{pieces}
 use Rattle.chunk.specs.declared.chunk.Level.{Level}
 use Rattle.chunk.specs.declared.chunk.ChunkTrack.{ChunkTrack}
@@ -20,72 +21,81 @@ column f n = pieces (λ j. f j ∷ []) n
 -- ---- Where things stand. Of places: the tracks' parents from 0 on, and
 
 abbrev pub advancingFrom : ℕ
-advancingFrom = 32
+advancingFrom = trackPlaces
 
 abbrev pub routeTracksFrom : ℕ
-routeTracksFrom = 64
+routeTracksFrom = advancingFrom + trackPlaces
 
 abbrev pub routeSendsFrom : ℕ
-routeSendsFrom = 128
+routeSendsFrom = routeTracksFrom + routeLines
 
 abbrev pub soundTracksFrom : ℕ
-soundTracksFrom = 192
+soundTracksFrom = routeSendsFrom + routeLines
 
 abbrev pub soundStartsFrom : ℕ
-soundStartsFrom = 256
+soundStartsFrom = soundTracksFrom + soundLines
 
 abbrev pub soundLeftsFrom : ℕ
-soundLeftsFrom = 320
+soundLeftsFrom = soundStartsFrom + soundLines
 
 abbrev pub framesPlace : ℕ
-framesPlace = 384
+framesPlace = soundLeftsFrom + soundLines
 
 abbrev pub trackCountPlace : ℕ
-trackCountPlace = 385
+trackCountPlace = framesPlace + 1
 
 abbrev pub sendCountPlace : ℕ
-sendCountPlace = 386
+sendCountPlace = trackCountPlace + 1
 
 abbrev pub routeCountPlace : ℕ
-routeCountPlace = 387
+routeCountPlace = sendCountPlace + 1
 
 abbrev pub soundCountPlace : ℕ
-soundCountPlace = 388
+soundCountPlace = routeCountPlace + 1
 
--- Of values: four a track from 0 on (volume and fade, each before and now), two a send track, one a route, and the main volume.
+abbrev pub placesSize : ℕ
+placesSize = soundCountPlace + 1
+
+-- Of levels: two numbers a level (before and now), two levels a track (volume and fade) from 0 on, one a send track, and the main volume.
+
+abbrev pub levelSize : ℕ
+levelSize = 2
+
+abbrev pub trackLevels : ℕ
+trackLevels = 2 * levelSize
 
 abbrev pub sendLevelsFrom : ℕ
-sendLevelsFrom = 128
-
-abbrev pub amplitudesFrom : ℕ
-amplitudesFrom = 144
+sendLevelsFrom = trackPlaces * trackLevels
 
 abbrev pub mainFrom : ℕ
-mainFrom = 208
+mainFrom = sendLevelsFrom + sendLines * levelSize
 
--- ---- the chunk that two arrays stand for
+abbrev pub levelsSize : ℕ
+levelsSize = mainFrom + levelSize
+
+-- ---- the chunk that the arrays stand for
 
 unfoldable pub levelFrom : List Float → ℕ → Level
-levelFrom values i = record { before = record { 0 = getD values i nan }; now = record { 0 = getD values (i + 1) nan } }
+levelFrom levels i = record { before = record { 0 = getD levels i nan }; now = record { 0 = getD levels (i + 1) nan } }
 
 unfoldable pub trackFrom : List ℕ → List Float → ℕ → ChunkTrack
-trackFrom places values j =
+trackFrom places levels j =
     record {
       parent = getD places j 0;
       advancing = eqb (getD places (advancingFrom + j) 0) 1;
-      volume = levelFrom values (4 * j);
-      fade = levelFrom values (4 * j + 2);
+      volume = levelFrom levels (trackLevels * j);
+      fade = levelFrom levels (trackLevels * j + levelSize);
     }
 
 unfoldable pub sendFrom : List Float → ℕ → Level
-sendFrom values s = levelFrom values (sendLevelsFrom + 2 * s)
+sendFrom levels s = levelFrom levels (sendLevelsFrom + levelSize * s)
 
 unfoldable pub routeFrom : List ℕ → List Float → ℕ → ChunkRoute
-routeFrom places values r =
+routeFrom places amplitudes r =
     record {
       track = getD places (routeTracksFrom + r) 0;
       send = getD places (routeSendsFrom + r) 0;
-      amplitude = record { 0 = getD values (amplitudesFrom + r) nan };
+      amplitude = record { 0 = getD amplitudes r nan };
     }
 
 unfoldable pub soundFrom : List ℕ → ℕ → ChunkSound
@@ -96,19 +106,19 @@ soundFrom places k =
       left = getD places (soundLeftsFrom + k) 0;
     }
 
-abbrev pub chunkFrom : List ℕ → List Float → Chunk
-chunkFrom places values =
+abbrev pub chunkFrom : List ℕ → List Float → List Float → Chunk
+chunkFrom places levels amplitudes =
     record {
       frames = getD places framesPlace 0;
       «track_count» = getD places trackCountPlace 0;
-      tracks = column (trackFrom places values) 32;
+      tracks = column (trackFrom places levels) trackPlaces;
       «send_count» = getD places sendCountPlace 0;
-      sends = column (sendFrom values) 8;
+      sends = column (sendFrom levels) sendLines;
       «route_count» = getD places routeCountPlace 0;
-      routes = column (routeFrom places values) 64;
+      routes = column (routeFrom places amplitudes) routeLines;
       «sound_count» = getD places soundCountPlace 0;
-      sounds = column (soundFrom places) 64;
-      main = levelFrom values mainFrom;
+      sounds = column (soundFrom places) soundLines;
+      main = levelFrom levels mainFrom;
     }
 
 -- ---- the arrays of a chunk
@@ -119,25 +129,27 @@ flag b = cond b 1 0
 -- from the sounds on
 unfoldable pub soundPlaces : Chunk → List ℕ
 soundPlaces c =
-    column (λ k. soundRow c k .track) 64
-    ++ (column (λ k. soundRow c k .start) 64
-    ++ (column (λ k. soundRow c k .left) 64
+    column (λ k. soundRow c k .track) soundLines
+    ++ (column (λ k. soundRow c k .start) soundLines
+    ++ (column (λ k. soundRow c k .left) soundLines
     ++ (c .frames ∷ c .«track_count» ∷ c .«send_count» ∷ c .«route_count» ∷ c .«sound_count» ∷ [])))
 
 unfoldable pub placesOf : Chunk → List ℕ
 placesOf c =
-    column (λ j. trackRow c j .parent) 32
-    ++ (column (λ j. flag (trackRow c j .advancing)) 32
-    ++ (column (λ r. routeRow c r .track) 64
-    ++ (column (λ r. routeRow c r .send) 64
+    column (λ j. trackRow c j .parent) trackPlaces
+    ++ (column (λ j. flag (trackRow c j .advancing)) trackPlaces
+    ++ (column (λ r. routeRow c r .track) routeLines
+    ++ (column (λ r. routeRow c r .send) routeLines
     ++ soundPlaces c)))
 
 abbrev pub levelValues : Level → List Float
 levelValues l = l .before .0 ∷ l .now .0 ∷ []
 
-unfoldable pub valuesOf : Chunk → List Float
-valuesOf c =
-    pieces (λ j. levelValues (trackRow c j .volume) ++ levelValues (trackRow c j .fade)) 32
-    ++ (pieces (λ s. levelValues (sendRow c s)) 8
-    ++ (column (λ r. routeRow c r .amplitude .0) 64
-    ++ levelValues (c .main)))
+unfoldable pub levelsOf : Chunk → List Float
+levelsOf c =
+    pieces (λ j. levelValues (trackRow c j .volume) ++ levelValues (trackRow c j .fade)) trackPlaces
+    ++ (pieces (λ s. levelValues (sendRow c s)) sendLines
+    ++ levelValues (c .main))
+
+unfoldable pub amplitudesOf : Chunk → List Float
+amplitudesOf c = column (λ r. routeRow c r .amplitude .0) routeLines

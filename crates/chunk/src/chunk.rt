@@ -2,10 +2,19 @@
 // none of it.
 ghost use mathlib.Core.Path.{_≡_};
 ghost use Prim.Native.Nat.{_≤_, _<_};
+ghost use Rattle.limits.specs.Limits.{chunkFramesMost};
 ghost use Rattle.gain_table.specs.GainTable.{IsGainTable};
-ghost use Rattle.chunk.specs.Chunk.{amountAt, isSteady, steadyAmplitude, withFactors, LevelInRange, IsParts};
+ghost use Rattle.chunk.specs.Chunk.{amountAt, isSteady, steadyAmplitude, withFactors, partsOf, LevelInRange};
 use decibels::Amplitude;
 use decibels::Decibels;
+use gain_table::GainTable;
+use level_amplitudes::Factors;
+use level_amplitudes::Parts;
+use limits::CHUNK_FRAMES;
+use limits::ROUTE_LINES;
+use limits::SEND_LINES;
+use limits::SOUND_LINES;
+use limits::TRACK_PLACES;
 
 // A parameter before this chunk and at its end.
 pub struct Level {
@@ -39,13 +48,13 @@ pub struct ChunkSound {
 pub struct Chunk {
     pub frames: usize,
     pub track_count: usize,
-    pub tracks: [ChunkTrack; 32],
+    pub tracks: [ChunkTrack; TRACK_PLACES],
     pub send_count: usize,
-    pub sends: [Level; 8],
+    pub sends: [Level; SEND_LINES],
     pub route_count: usize,
-    pub routes: [ChunkRoute; 64],
+    pub routes: [ChunkRoute; ROUTE_LINES],
     pub sound_count: usize,
-    pub sounds: [ChunkSound; 64],
+    pub sounds: [ChunkSound; SOUND_LINES],
     pub main: Level,
 }
 
@@ -60,7 +69,7 @@ impl Level {
     }
 
     // The one amplitude of a level that stands still.
-    pub fn steady_amplitude(self, table: &[u64; 1345]) -> Amplitude
+    pub fn steady_amplitude(self, table: &GainTable) -> Amplitude
         requires { ⌜ IsGainTable (now table) ⌝ }
         requires { ⌜ LevelInRange self ⌝ }
         ensures { λ r. ⌜ r ≡ steadyAmplitude self ⌝ }
@@ -70,17 +79,11 @@ impl Level {
     }
 
     // The amplitudes of a chunk's frames.
-    pub fn amplitudes(
-        self,
-        frames: usize,
-        parts: &[f32; 256],
-        table: &[u64; 1345],
-        factors: &mut [f32; 256],
-    )
+    pub fn amplitudes(self, frames: usize, parts: &Parts, table: &GainTable, factors: &mut Factors)
         requires { ⌜ IsGainTable (now table) ⌝ }
         requires { ⌜ LevelInRange self ⌝ }
-        requires { ⌜ frames ≤ 256 ⌝ }
-        requires { ⌜ IsParts frames (now parts) ⌝ }
+        requires { ⌜ frames ≤ chunkFramesMost ⌝ }
+        requires { ⌜ now parts ≡ partsOf frames ⌝ }
         ensures { λ _. ⌜ now (factors .exit) ≡ withFactors self frames (now (factors .entry)) ⌝ }
     {
         let before = self.before;
@@ -92,18 +95,18 @@ impl Level {
 // How far into a chunk frame i is read: (i + 1) / n.
 pub fn amount_at(i: usize, frames: usize) -> f64
     requires { ⌜ i < frames ⌝ }
-    requires { ⌜ frames ≤ 256 ⌝ }
+    requires { ⌜ frames ≤ chunkFramesMost ⌝ }
     ensures { λ r. ⌜ r ≡ amountAt i frames ⌝ }
 {
     ((i + 1) as f64) / (frames as f64)
 }
 
-// The parts at which the frames of a chunk are read.
-pub fn parts_of(frames: usize) -> [f32; 256]
-    requires { ⌜ frames ≤ 256 ⌝ }
-    ensures { λ r. ⌜ IsParts frames r ⌝ }
+// The parts at which the frames of a chunk are read, and zeros behind them.
+pub fn parts_of(frames: usize) -> Parts
+    requires { ⌜ frames ≤ chunkFramesMost ⌝ }
+    ensures { λ r. ⌜ r ≡ partsOf frames ⌝ }
 {
-    let mut parts = [0.0f32; 256];
+    let mut parts = [0.0f32; CHUNK_FRAMES];
     let mut i = 0;
     while i < frames {
         parts[i] = rounding::f64_to_f32(amount_at(i, frames));

@@ -1,11 +1,13 @@
-// The tables that mixing reads, as two flat arrays of numbers, so that they can be lent: a struct would
-// be copied at each call.
+// The tables that mixing reads, as three flat arrays of numbers, so that they can be lent: a struct
+// would be copied at each call.
 ghost use mathlib.Core.Path.{_≡_};
-ghost use Prim.Native.Nat.{_+_, _<_};
+ghost use Prim.Native.Nat.{_+_, _*_, _<_};
 ghost use lib.ListN.{length, set};
 ghost use lib.Ieee.{nan};
+ghost use Rattle.limits.specs.Limits.{trackPlaces, sendLines, routeLines, soundLines};
 ghost use Rattle.chunk.specs.Chunk.{trackRow, routeRow, soundRow, sendRow};
-ghost use Rattle.chunk.specs.Flat.{chunkFrom, levelFrom, flag, placesOf, valuesOf, routeTracksFrom, soundTracksFrom, sendLevelsFrom, amplitudesFrom};
+ghost use Rattle.chunk.specs.Flat.{placesSize, levelSize, trackLevels, levelsSize, routeTracksFrom, soundTracksFrom, sendLevelsFrom};
+ghost use Rattle.chunk.specs.Flat.{chunkFrom, levelFrom, flag, placesOf, levelsOf, amplitudesOf};
 ghost use Rattle.chunk.specs.Written.{Written};
 use crate::chunk::Chunk;
 use crate::chunk::ChunkRoute;
@@ -14,58 +16,77 @@ use crate::chunk::ChunkTrack;
 use crate::chunk::Level;
 use decibels::Amplitude;
 use decibels::Decibels;
+use limits::ROUTE_LINES;
+use limits::SEND_LINES;
+use limits::SOUND_LINES;
+use limits::TRACK_PLACES;
 
-// Where a column of `places` begins.
+// Where a column of `places` begins: the tracks' columns, the routes', the sounds'.
 pub const PARENTS: usize = 0;
 
-const ADVANCING: usize = 32;
+pub const ADVANCING: usize = PARENTS + TRACK_PLACES;
 
-const ROUTE_TRACKS: usize = 64;
+const ROUTE_TRACKS: usize = ADVANCING + TRACK_PLACES;
 
-const ROUTE_SENDS: usize = 128;
+const ROUTE_SENDS: usize = ROUTE_TRACKS + ROUTE_LINES;
 
-pub const SOUND_TRACKS: usize = 192;
+pub const SOUND_TRACKS: usize = ROUTE_SENDS + ROUTE_LINES;
 
-const SOUND_STARTS: usize = 256;
+pub const SOUND_STARTS: usize = SOUND_TRACKS + SOUND_LINES;
 
-const SOUND_LEFTS: usize = 320;
+pub const SOUND_LEFTS: usize = SOUND_STARTS + SOUND_LINES;
 
 // Where a number of `places` stands.
-pub const FRAMES: usize = 384;
+pub const FRAMES: usize = SOUND_LEFTS + SOUND_LINES;
 
-pub const TRACK_COUNT: usize = 385;
+pub const TRACK_COUNT: usize = FRAMES + 1;
 
-pub const SEND_COUNT: usize = 386;
+pub const SEND_COUNT: usize = TRACK_COUNT + 1;
 
-pub const ROUTE_COUNT: usize = 387;
+pub const ROUTE_COUNT: usize = SEND_COUNT + 1;
 
-pub const SOUND_COUNT: usize = 388;
+pub const SOUND_COUNT: usize = ROUTE_COUNT + 1;
 
-// Where a column of `values` begins. The tracks' levels begin it.
-const SENDS: usize = 128;
+pub const PLACES: usize = SOUND_COUNT + 1;
 
-const AMPLITUDES: usize = 144;
+pub type Places = [usize; PLACES];
 
-const MAIN: usize = 208;
+// A level is two numbers, before and now; a track has two levels, volume and fade.
+const LEVEL: usize = 2;
 
-fn level_at(values: &[f32; 210], at: usize) -> Level
-    requires { ⌜ at + 1 < 210 ⌝ }
-    ensures { λ r. ⌜ r ≡ levelFrom (now (values .entry)) at ⌝ }
+const TRACK_LEVELS: usize = 2 * LEVEL;
+
+// Where a column of `levels` begins. The tracks' levels begin it.
+const SENDS: usize = TRACK_PLACES * TRACK_LEVELS;
+
+const MAIN: usize = SENDS + SEND_LINES * LEVEL;
+
+pub const LEVELS: usize = MAIN + LEVEL;
+
+// Decibels.
+pub type Levels = [f32; LEVELS];
+
+// Of the routes.
+pub type Amplitudes = [f32; ROUTE_LINES];
+
+fn level_at(levels: &Levels, at: usize) -> Level
+    requires { ⌜ at + 1 < levelsSize ⌝ }
+    ensures { λ r. ⌜ r ≡ levelFrom (now (levels .entry)) at ⌝ }
 {
-    let before = Decibels(values[at]);
-    let now = Decibels(values[at + 1]);
+    let before = Decibels(levels[at]);
+    let now = Decibels(levels[at + 1]);
     Level {
         before: before,
         now: now,
     }
 }
 
-pub fn track_at(places: &[usize; 389], values: &[f32; 210], j: usize) -> ChunkTrack
-    requires { ⌜ j < 32 ⌝ }
-    ensures { λ r. ⌜ r ≡ trackRow (chunkFrom (now (places .entry)) (now (values .entry))) j ⌝ }
+pub fn track_at(places: &Places, levels: &Levels, amplitudes: &Amplitudes, j: usize) -> ChunkTrack
+    requires { ⌜ j < trackPlaces ⌝ }
+    ensures { λ r. ⌜ r ≡ trackRow (chunkFrom (now (places .entry)) (now (levels .entry)) (now (amplitudes .entry))) j ⌝ }
 {
-    let volume = level_at(values, 4 * j);
-    let fade = level_at(values, 4 * j + 2);
+    let volume = level_at(levels, TRACK_LEVELS * j);
+    let fade = level_at(levels, TRACK_LEVELS * j + LEVEL);
     ChunkTrack {
         parent: places[j],
         advancing: places[ADVANCING + j] == 1,
@@ -74,18 +95,18 @@ pub fn track_at(places: &[usize; 389], values: &[f32; 210], j: usize) -> ChunkTr
     }
 }
 
-pub fn send_at(places: &[usize; 389], values: &[f32; 210], s: usize) -> Level
-    requires { ⌜ s < 8 ⌝ }
-    ensures { λ r. ⌜ r ≡ sendRow (chunkFrom (now (places .entry)) (now (values .entry))) s ⌝ }
+pub fn send_at(places: &Places, levels: &Levels, amplitudes: &Amplitudes, s: usize) -> Level
+    requires { ⌜ s < sendLines ⌝ }
+    ensures { λ r. ⌜ r ≡ sendRow (chunkFrom (now (places .entry)) (now (levels .entry)) (now (amplitudes .entry))) s ⌝ }
 {
-    level_at(values, SENDS + 2 * s)
+    level_at(levels, SENDS + LEVEL * s)
 }
 
-pub fn route_at(places: &[usize; 389], values: &[f32; 210], r: usize) -> ChunkRoute
-    requires { ⌜ r < 64 ⌝ }
-    ensures { λ x. ⌜ x ≡ routeRow (chunkFrom (now (places .entry)) (now (values .entry))) r ⌝ }
+pub fn route_at(places: &Places, levels: &Levels, amplitudes: &Amplitudes, r: usize) -> ChunkRoute
+    requires { ⌜ r < routeLines ⌝ }
+    ensures { λ x. ⌜ x ≡ routeRow (chunkFrom (now (places .entry)) (now (levels .entry)) (now (amplitudes .entry))) r ⌝ }
 {
-    let amplitude = Amplitude(values[AMPLITUDES + r]);
+    let amplitude = Amplitude(amplitudes[r]);
     ChunkRoute {
         track: places[ROUTE_TRACKS + r],
         send: places[ROUTE_SENDS + r],
@@ -93,9 +114,9 @@ pub fn route_at(places: &[usize; 389], values: &[f32; 210], r: usize) -> ChunkRo
     }
 }
 
-pub fn sound_at(places: &[usize; 389], values: &[f32; 210], k: usize) -> ChunkSound
-    requires { ⌜ k < 64 ⌝ }
-    ensures { λ r. ⌜ r ≡ soundRow (chunkFrom (now (places .entry)) (now (values .entry))) k ⌝ }
+pub fn sound_at(places: &Places, levels: &Levels, amplitudes: &Amplitudes, k: usize) -> ChunkSound
+    requires { ⌜ k < soundLines ⌝ }
+    ensures { λ r. ⌜ r ≡ soundRow (chunkFrom (now (places .entry)) (now (levels .entry)) (now (amplitudes .entry))) k ⌝ }
 {
     ChunkSound {
         track: places[SOUND_TRACKS + k],
@@ -104,10 +125,10 @@ pub fn sound_at(places: &[usize; 389], values: &[f32; 210], k: usize) -> ChunkSo
     }
 }
 
-pub fn main_level(places: &[usize; 389], values: &[f32; 210]) -> Level
-    ensures { λ r. ⌜ r ≡ chunkFrom (now (places .entry)) (now (values .entry)) .main ⌝ }
+pub fn main_level(places: &Places, levels: &Levels, amplitudes: &Amplitudes) -> Level
+    ensures { λ r. ⌜ r ≡ chunkFrom (now (places .entry)) (now (levels .entry)) (now (amplitudes .entry)) .main ⌝ }
 {
-    level_at(values, MAIN)
+    level_at(levels, MAIN)
 }
 
 fn flag(yes: bool) -> usize
@@ -116,70 +137,70 @@ fn flag(yes: bool) -> usize
     if yes { 1 } else { 0 }
 }
 
-fn put_level(values: &mut [f32; 210], at: usize, level: Level)
-    requires { ⌜ at + 1 < 210 ⌝ }
-    ensures { λ _. ⌜ now (values .exit) ≡ set (set (now (values .entry)) at (level .before .0)) (at + 1) (level .now .0) ⌝ }
+fn put_level(levels: &mut Levels, at: usize, level: Level)
+    requires { ⌜ at + 1 < levelsSize ⌝ }
+    ensures { λ _. ⌜ now (levels .exit) ≡ set (set (now (levels .entry)) at (level .before .0)) (at + 1) (level .now .0) ⌝ }
 {
     let before = level.before;
     let now = level.now;
-    values[at] = before.0;
-    values[at + 1] = now.0;
+    levels[at] = before.0;
+    levels[at + 1] = now.0;
 }
 
-fn flatten_tracks(chunk: Chunk, places: &mut [usize; 389], values: &mut [f32; 210])
-    requires { ⌜ length (now places) ≡ 389 ⌝ }
-    requires { ⌜ length (now values) ≡ 210 ⌝ }
-    ensures places { λ _. ⌜ Written 0 (placesOf chunk) 0 64 (now (places .entry)) (now (places .exit)) ⌝ }
-    ensures values { λ _. ⌜ Written nan (valuesOf chunk) 0 128 (now (values .entry)) (now (values .exit)) ⌝ }
+fn flatten_tracks(chunk: Chunk, places: &mut Places, levels: &mut Levels)
+    requires { ⌜ length (now places) ≡ placesSize ⌝ }
+    requires { ⌜ length (now levels) ≡ levelsSize ⌝ }
+    ensures places { λ _. ⌜ Written 0 (placesOf chunk) 0 (2 * trackPlaces) (now (places .entry)) (now (places .exit)) ⌝ }
+    ensures levels { λ _. ⌜ Written nan (levelsOf chunk) 0 (trackPlaces * trackLevels) (now (levels .entry)) (now (levels .exit)) ⌝ }
 {
     let mut j = 0;
-    while j < 32 {
+    while j < TRACK_PLACES {
         let track = chunk.tracks[j];
         let volume = track.volume;
         let fade = track.fade;
         places[j] = track.parent;
         places[ADVANCING + j] = flag(track.advancing);
-        put_level(values, 4 * j, volume);
-        put_level(values, 4 * j + 2, fade);
+        put_level(levels, TRACK_LEVELS * j, volume);
+        put_level(levels, TRACK_LEVELS * j + LEVEL, fade);
         j += 1;
     }
 }
 
-fn flatten_sends(chunk: Chunk, values: &mut [f32; 210])
-    requires { ⌜ length (now values) ≡ 210 ⌝ }
-    ensures { λ _. ⌜ Written nan (valuesOf chunk) sendLevelsFrom 16 (now (values .entry)) (now (values .exit)) ⌝ }
+fn flatten_sends(chunk: Chunk, levels: &mut Levels)
+    requires { ⌜ length (now levels) ≡ levelsSize ⌝ }
+    ensures { λ _. ⌜ Written nan (levelsOf chunk) sendLevelsFrom (sendLines * levelSize) (now (levels .entry)) (now (levels .exit)) ⌝ }
 {
     let mut s = 0;
-    while s < 8 {
+    while s < SEND_LINES {
         let level = chunk.sends[s];
-        put_level(values, SENDS + 2 * s, level);
+        put_level(levels, SENDS + LEVEL * s, level);
         s += 1;
     }
 }
 
-fn flatten_routes(chunk: Chunk, places: &mut [usize; 389], values: &mut [f32; 210])
-    requires { ⌜ length (now places) ≡ 389 ⌝ }
-    requires { ⌜ length (now values) ≡ 210 ⌝ }
-    ensures places { λ _. ⌜ Written 0 (placesOf chunk) routeTracksFrom 128 (now (places .entry)) (now (places .exit)) ⌝ }
-    ensures values { λ _. ⌜ Written nan (valuesOf chunk) amplitudesFrom 64 (now (values .entry)) (now (values .exit)) ⌝ }
+fn flatten_routes(chunk: Chunk, places: &mut Places, amplitudes: &mut Amplitudes)
+    requires { ⌜ length (now places) ≡ placesSize ⌝ }
+    requires { ⌜ length (now amplitudes) ≡ routeLines ⌝ }
+    ensures places { λ _. ⌜ Written 0 (placesOf chunk) routeTracksFrom (2 * routeLines) (now (places .entry)) (now (places .exit)) ⌝ }
+    ensures amplitudes { λ _. ⌜ Written nan (amplitudesOf chunk) 0 routeLines (now (amplitudes .entry)) (now (amplitudes .exit)) ⌝ }
 {
     let mut r = 0;
-    while r < 64 {
+    while r < ROUTE_LINES {
         let route = chunk.routes[r];
         let amplitude = route.amplitude;
         places[ROUTE_TRACKS + r] = route.track;
         places[ROUTE_SENDS + r] = route.send;
-        values[AMPLITUDES + r] = amplitude.0;
+        amplitudes[r] = amplitude.0;
         r += 1;
     }
 }
 
-fn flatten_sounds(chunk: Chunk, places: &mut [usize; 389])
-    requires { ⌜ length (now places) ≡ 389 ⌝ }
-    ensures { λ _. ⌜ Written 0 (placesOf chunk) soundTracksFrom 192 (now (places .entry)) (now (places .exit)) ⌝ }
+fn flatten_sounds(chunk: Chunk, places: &mut Places)
+    requires { ⌜ length (now places) ≡ placesSize ⌝ }
+    ensures { λ _. ⌜ Written 0 (placesOf chunk) soundTracksFrom (3 * soundLines) (now (places .entry)) (now (places .exit)) ⌝ }
 {
     let mut k = 0;
-    while k < 64 {
+    while k < SOUND_LINES {
         let sound = chunk.sounds[k];
         places[SOUND_TRACKS + k] = sound.track;
         places[SOUND_STARTS + k] = sound.start;
@@ -189,15 +210,17 @@ fn flatten_sounds(chunk: Chunk, places: &mut [usize; 389])
 }
 
 // Lays a chunk's tables out.
-pub fn flatten(chunk: Chunk, places: &mut [usize; 389], values: &mut [f32; 210])
-    requires { ⌜ length (now places) ≡ 389 ⌝ }
-    requires { ⌜ length (now values) ≡ 210 ⌝ }
+pub fn flatten(chunk: Chunk, places: &mut Places, levels: &mut Levels, amplitudes: &mut Amplitudes)
+    requires { ⌜ length (now places) ≡ placesSize ⌝ }
+    requires { ⌜ length (now levels) ≡ levelsSize ⌝ }
+    requires { ⌜ length (now amplitudes) ≡ routeLines ⌝ }
     ensures places { λ _. ⌜ now (places .exit) ≡ placesOf chunk ⌝ }
-    ensures values { λ _. ⌜ now (values .exit) ≡ valuesOf chunk ⌝ }
+    ensures levels { λ _. ⌜ now (levels .exit) ≡ levelsOf chunk ⌝ }
+    ensures amplitudes { λ _. ⌜ now (amplitudes .exit) ≡ amplitudesOf chunk ⌝ }
 {
-    flatten_tracks(chunk, places, values);
-    flatten_sends(chunk, values);
-    flatten_routes(chunk, places, values);
+    flatten_tracks(chunk, places, levels);
+    flatten_sends(chunk, levels);
+    flatten_routes(chunk, places, amplitudes);
     flatten_sounds(chunk, places);
     places[FRAMES] = chunk.frames;
     places[TRACK_COUNT] = chunk.track_count;
@@ -205,5 +228,5 @@ pub fn flatten(chunk: Chunk, places: &mut [usize; 389], values: &mut [f32; 210])
     places[ROUTE_COUNT] = chunk.route_count;
     places[SOUND_COUNT] = chunk.sound_count;
     let main = chunk.main;
-    put_level(values, MAIN, main);
+    put_level(levels, MAIN, main);
 }

@@ -10,7 +10,7 @@ asTicksPerSecond (SecondsPerTick s) = div binary64 (whole 1) s
 asTicksPerSecond (TicksPerSecond t) = t
 asTicksPerSecond (TicksPerMinute m) = div binary64 m (whole 60)
 
--- 01's range for a speed: 0 to 1000 ticks per second
+-- the range of a speed: 0 to 1000 ticks per second
 unfoldable pub allowedSpeed : ClockSpeed → Bool
 unfolding asTicksPerSecond
 allowedSpeed s = le (whole 0) (asTicksPerSecond s) && le (asTicksPerSecond s) (whole 1000)

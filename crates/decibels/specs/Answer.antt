@@ -7,7 +7,7 @@ use Rattle.decibels.specs.declared.decibels.AmplitudeAnswer.{AmplitudeAn
 use Rattle.decibels.specs.declared.decibels.AmplitudeAnswer.the-variants.{Given, Refused}
 use Rattle.decibels.specs.Decibels.{amplitude, admitted}
 
--- 01's number, and the amplitude where there is one
+-- the number (0, or 11), and the amplitude where there is one
 pub record Answer : Type 0 where
   pub number : ℕ
   pub value : Option Float

@@ -1,4 +1,4 @@
-// Decibels and amplitudes, kira's decibels.rs, with document 01's gain table in place of `powf`.
+// Decibels and amplitudes, kira's decibels.rs, with the gain table in place of `powf`.
 mod decibels;
 mod export;
 mod segment;

@@ -1,3 +1,2 @@
-pub mod Frame
-pub mod Picks
+pub mod Layout
 pub mod Turn

@@ -1,10 +1,12 @@
 // kira's frame.rs, and buffers of frames.
+mod buffer;
 mod frame;
 
+pub use buffer::add_frames;
+pub use buffer::add_scaled;
+pub use buffer::clear;
+pub use buffer::frame_at;
+pub use buffer::put_frame;
+pub use buffer::sample_frame;
+pub use buffer::scale;
 pub use frame::Frame;
-pub use frame::add_frames;
-pub use frame::add_scaled;
-pub use frame::clear;
-pub use frame::frame_at;
-pub use frame::put_frame;
-pub use frame::scale;

@@ -1,4 +1,4 @@
--- The gain table (01's ladder of 1,345 rungs): entry n, from 0 to 1344, stands for rung k = n - 960, the whole part of 2^40 * 10^(k / 320).
+-- The gain table, 1,345 entries: entry n, from 0 to 1344, stands for k = n - 960 sixteenths of a decibel and is the whole part of 2^40 * 10^(k / 320).
 -- Everything is said with whole numbers: r is at most 2^40 * 10^(k / 320) where r^320 is at most 2^12800 * 10^k.
 use mathlib.Core.Path.{_≡_}
 use mathlib.Core.Bool.{Bool, cond, not}

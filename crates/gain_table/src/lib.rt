@@ -2,7 +2,11 @@
 // whole number. Made by tools/gain_table.py.
 ghost use Rattle.gain_table.specs.GainTable.{IsGainTable};
 
-const GAIN_TABLE: [u64; 1345] = [
+pub const ENTRIES: usize = 1345;
+
+pub type GainTable = [u64; ENTRIES];
+
+const GAIN_TABLE: GainTable = [
     1099511627,
     1107451782,
     1115449277,
@@ -1351,7 +1355,7 @@ const GAIN_TABLE: [u64; 1345] = [
 ];
 
 // Indexing a constant array builds it anew at each use: make it once, and pass it on.
-pub fn gain_table() -> [u64; 1345]
+pub fn gain_table() -> GainTable
     ensures { λ r. ⌜ IsGainTable r ⌝ }
 {
     GAIN_TABLE

@@ -3,6 +3,8 @@ pub mod Count
 pub mod Kept
 pub mod Pieces
 pub mod Table
+pub mod Sets
+pub mod Runs
 pub mod Choice
 pub mod Float
 pub mod FloatValue

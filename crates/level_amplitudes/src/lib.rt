@@ -1,4 +1,6 @@
 // The amplitudes of a level that moves, frame by frame of a chunk.
 mod runs;
 
+pub use runs::Factors;
+pub use runs::Parts;
 pub use runs::amplitudes;

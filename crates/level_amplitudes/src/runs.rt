@@ -4,6 +4,7 @@ ghost use mathlib.Core.Path.{_≡_};
 ghost use Prim.Native.Nat.{ℕ, _≤_, _<_};
 ghost use lib.Dec.{T};
 ghost use lib.Ieee.{binary32};
+ghost use Rattle.limits.specs.Limits.{chunkFramesMost};
 ghost use Rattle.gain_table.specs.GainTable.{IsGainTable};
 ghost use Rattle.decibels.specs.Decibels.{admitted};
 ghost use Rattle.decibels.specs.Segment.{IsSegment};
@@ -12,6 +13,13 @@ ghost use Rattle.level_amplitudes.specs.Amplitudes.{valueAt, withAmplitu
 use decibels::Decibels;
 use decibels::Segment;
 use decibels::segment_of;
+use gain_table::GainTable;
+use limits::CHUNK_FRAMES;
+
+// The parts of a chunk at which its frames are read, and the factors of its frames.
+pub type Parts = [f32; CHUNK_FRAMES];
+
+pub type Factors = [f32; CHUNK_FRAMES];
 
 // How many frames are tried at once: a segment is a sixteenth of a decibel, which a fade of seconds
 // takes hundreds of frames to cross.
@@ -29,12 +37,12 @@ fn value_by(before: Decibels, after: Decibels, part: f32) -> Decibels
 fn outside(
     before: Decibels,
     after: Decibels,
-    parts: &[f32; 256],
+    parts: &Parts,
     segment: Segment,
     first: usize,
     to: usize,
 ) -> u32
-    requires { ⌜ (first ≤ to) × (to ≤ 256) ⌝ }
+    requires { ⌜ (first ≤ to) × (to ≤ chunkFramesMost) ⌝ }
     ensures { λ r. ⌜ r ≡ outside before after (now (parts .entry)) segment first to ⌝ }
 {
     let mut count = 0u32;
@@ -52,13 +60,13 @@ fn outside(
 fn set_inside(
     before: Decibels,
     after: Decibels,
-    parts: &[f32; 256],
+    parts: &Parts,
     segment: Segment,
     first: usize,
     to: usize,
-    factors: &mut [f32; 256],
+    factors: &mut Factors,
 )
-    requires { ⌜ (first ≤ to) × (to ≤ 256) ⌝ }
+    requires { ⌜ (first ≤ to) × (to ≤ chunkFramesMost) ⌝ }
     requires { ⌜ IsSegment segment ⌝ }
     requires { ⌜ outside before after (now parts) segment first to ≡ 0 ⌝ }
     ensures { λ _. ⌜ now (factors .exit) ≡ withRun before after (now (parts .entry)) first to (now (factors .entry)) ⌝ }
@@ -76,14 +84,14 @@ fn set_inside(
 fn set_each(
     before: Decibels,
     after: Decibels,
-    parts: &[f32; 256],
-    table: &[u64; 1345],
+    parts: &Parts,
+    table: &GainTable,
     first: usize,
     to: usize,
-    factors: &mut [f32; 256],
+    factors: &mut Factors,
 )
     requires { ⌜ IsGainTable (now table) ⌝ }
-    requires { ⌜ (first ≤ to) × (to ≤ 256) ⌝ }
+    requires { ⌜ (first ≤ to) × (to ≤ chunkFramesMost) ⌝ }
     requires { ⌜ ((i : ℕ) → i < to → T (admitted (valueAt before after (now parts) i))) ⌝ }
     ensures { λ _. ⌜ now (factors .exit) ≡ withRun before after (now (parts .entry)) first to (now (factors .entry)) ⌝ }
 {
@@ -100,14 +108,14 @@ fn set_each(
 fn set_run(
     before: Decibels,
     after: Decibels,
-    parts: &[f32; 256],
-    table: &[u64; 1345],
+    parts: &Parts,
+    table: &GainTable,
     first: usize,
     to: usize,
-    factors: &mut [f32; 256],
+    factors: &mut Factors,
 )
     requires { ⌜ IsGainTable (now table) ⌝ }
-    requires { ⌜ (first < to) × (to ≤ 256) ⌝ }
+    requires { ⌜ (first < to) × (to ≤ chunkFramesMost) ⌝ }
     requires { ⌜ ((i : ℕ) → i < to → T (admitted (valueAt before after (now parts) i))) ⌝ }
     ensures { λ _. ⌜ now (factors .exit) ≡ withRun before after (now (parts .entry)) first to (now (factors .entry)) ⌝ }
 {
@@ -121,7 +129,7 @@ fn set_run(
 
 // Where the run from `first` on ends.
 fn run_end(first: usize, frames: usize) -> usize
-    requires { ⌜ (first < frames) × (frames ≤ 256) ⌝ }
+    requires { ⌜ (first < frames) × (frames ≤ chunkFramesMost) ⌝ }
     ensures { λ r. ⌜ (first < r) × (r ≤ frames) ⌝ }
 {
     if RUN < frames - first {
@@ -135,12 +143,12 @@ pub fn amplitudes(
     before: Decibels,
     after: Decibels,
     frames: usize,
-    parts: &[f32; 256],
-    table: &[u64; 1345],
-    factors: &mut [f32; 256],
+    parts: &Parts,
+    table: &GainTable,
+    factors: &mut Factors,
 )
     requires { ⌜ IsGainTable (now table) ⌝ }
-    requires { ⌜ frames ≤ 256 ⌝ }
+    requires { ⌜ frames ≤ chunkFramesMost ⌝ }
     requires { ⌜ ((i : ℕ) → i < frames → T (admitted (valueAt before after (now parts) i))) ⌝ }
     ensures { λ _. ⌜ now (factors .exit) ≡ withAmplitudes before after (now (parts .entry)) frames (now (factors .entry)) ⌝ }
 {

@@ -30,3 +30,19 @@ trackDepth = 4
 -- frames of a chunk
 abbrev pub chunkFramesMost : ℕ
 chunkFramesMost = 256
+
+-- bytes of a scene file
+abbrev pub fileBytes : ℕ
+fileBytes = 16384
+
+-- frames of a block
+abbrev pub blockFramesMost : ℕ
+blockFramesMost = 512
+
+-- channels of the output
+abbrev pub channelsMost : ℕ
+channelsMost = 8
+
+-- frames a second
+abbrev pub rateMost : ℕ
+rateMost = 192000

@@ -22,3 +22,15 @@ pub const TRACK_DEPTH: usize = 4;
 
 // Frames of a chunk.
 pub const CHUNK_FRAMES: usize = 256;
+
+// Bytes of a scene file.
+pub const FILE_BYTES: usize = 16384;
+
+// Frames of a block.
+pub const BLOCK_FRAMES: usize = 512;
+
+// Channels of the output.
+pub const CHANNELS: usize = 8;
+
+// Frames a second.
+pub const RATE: usize = 192000;

@@ -2,4 +2,7 @@
 // with the same owner. So an owner's lines are found, latest first, without a look at the others.
 mod chain;
 
+pub use chain::Links;
+pub use chain::last_line;
+pub use chain::line_before;
 pub use chain::links_of;

@@ -5,6 +5,7 @@ use Prim.Native.Nat.{ℕ, _+_, _-_}
 use lib.IntN.{pos}
 use lib.ListN.{getD, replicate}
 use lib.Ieee.{binary32, ofInt}
+use Rattle.limits.specs.Limits.{trackPlaces, sendLines, routeLines, soundLines}
 use Rattle.laws.specs.Loop.{changed}
 use Rattle.decibels.specs.Decibels.{amplitude}
 use Rattle.parameter.specs.declared.parameter.Parameter.{Parameter}
@@ -54,16 +55,16 @@ emptySoundRow = record { track = 0; start = 0; left = 0 }
 -- ---- the chunk
 
 unfoldable pub chunkTracks : List TrackLine → ℕ → List Track → List ChunkTrack
-chunkTracks lines count tracks = changed (λ t x. chunkTrack (getD lines t absentTrackLine) (stateOf tracks t)) count (replicate 32 emptyTrackRow)
+chunkTracks lines count tracks = changed (λ t x. chunkTrack (getD lines t absentTrackLine) (stateOf tracks t)) count (replicate trackPlaces emptyTrackRow)
 
 unfoldable pub chunkSends : ℕ → List Parameter → List Level
-chunkSends count sends = changed (λ i x. levelOf (parameterOf sends i)) count (replicate 8 emptyLevel)
+chunkSends count sends = changed (λ i x. levelOf (parameterOf sends i)) count (replicate sendLines emptyLevel)
 
 unfoldable pub chunkRoutes : List RouteLine → ℕ → List Parameter → List ChunkRoute
-chunkRoutes lines count routes = changed (λ r x. chunkRoute (getD lines r absentRouteLine) (parameterOf routes r)) count (replicate 64 emptyRouteRow)
+chunkRoutes lines count routes = changed (λ r x. chunkRoute (getD lines r absentRouteLine) (parameterOf routes r)) count (replicate routeLines emptyRouteRow)
 
 unfoldable pub chunkSounds : List SoundLine → ℕ → List ℕ → List ChunkSound
-chunkSounds lines count played = changed (λ k x. chunkSound (getD lines k absentSoundLine) (getD played k 0)) count (replicate 64 emptySoundRow)
+chunkSounds lines count played = changed (λ k x. chunkSound (getD lines k absentSoundLine) (getD played k 0)) count (replicate soundLines emptySoundRow)
 
 unfoldable pub chunkOf : Scene → ℕ → Mixer → Chunk
 chunkOf s n m =

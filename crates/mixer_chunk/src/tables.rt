@@ -3,12 +3,14 @@ ghost use mathlib.Core.Path.{_≡_};
 ghost use Prim.Native.Nat.{ℕ, _+_, _^_, _≤_, _<_};
 ghost use lib.ListN.{getD};
 ghost use lib.Dec.{T};
+ghost use Rattle.limits.specs.Limits.{trackPlaces, sendLines, routeLines, soundLines};
 ghost use Rattle.gain_table.specs.GainTable.{IsGainTable};
 ghost use Rattle.decibels.specs.Decibels.{admitted};
 ghost use Rattle.accepted.specs.Lines.{absentSoundLine};
 ghost use Rattle.accepted.specs.SceneOk.{SceneOk};
 ghost use Rattle.mixer.specs.Mixer.{parameterOf};
-ghost use Rattle.mixer_chunk.specs.ChunkOf.{levelOf, chunkTrack, chunkRoute, chunkSound, emptyLevel, chunkTracks, chunkSends, chunkRoutes, chunkSounds, chunkOf};
+ghost use Rattle.mixer_chunk.specs.ChunkOf.{levelOf, chunkTrack, chunkRoute, chunkSound, emptyLevel};
+ghost use Rattle.mixer_chunk.specs.ChunkOf.{chunkTracks, chunkSends, chunkRoutes, chunkSounds, chunkOf};
 ghost use Rattle.mixer.specs.MixerOk.{MixerMixes};
 use chunk::Chunk;
 use chunk::ChunkRoute;
@@ -17,6 +19,12 @@ use chunk::ChunkTrack;
 use chunk::Level;
 use decibels::Amplitude;
 use decibels::Decibels;
+use gain_table::GainTable;
+use limits::ROUTE_LINES;
+use limits::SEND_LINES;
+use limits::SOUND_LINES;
+use limits::TRACK_LINES;
+use limits::TRACK_PLACES;
 use mixer::Mixer;
 use mixer::Track;
 use parameter::Parameter;
@@ -58,7 +66,7 @@ fn chunk_track(line: TrackLine, track: Track) -> ChunkTrack
     }
 }
 
-fn chunk_route(line: RouteLine, parameter: Parameter, table: &[u64; 1345]) -> ChunkRoute
+fn chunk_route(line: RouteLine, parameter: Parameter, table: &GainTable) -> ChunkRoute
     requires { ⌜ IsGainTable (now table) ⌝ }
     requires { ⌜ T (admitted (parameter .«raw_value» .0)) ⌝ }
     ensures { λ r. ⌜ r ≡ chunkRoute line parameter ⌝ }
@@ -83,8 +91,12 @@ fn chunk_sound(line: SoundLine, done: usize) -> ChunkSound
     }
 }
 
-fn chunk_tracks(lines: [TrackLine; 32], count: usize, tracks: [Track; 32]) -> [ChunkTrack; 32]
-    requires { ⌜ count ≤ 32 ⌝ }
+fn chunk_tracks(
+    lines: [TrackLine; TRACK_LINES],
+    count: usize,
+    tracks: [Track; TRACK_PLACES],
+) -> [ChunkTrack; TRACK_PLACES]
+    requires { ⌜ count ≤ trackPlaces ⌝ }
     ensures { λ r. ⌜ r ≡ chunkTracks lines count tracks ⌝ }
 {
     let none = ChunkTrack {
@@ -93,7 +105,7 @@ fn chunk_tracks(lines: [TrackLine; 32], count: usize, tracks: [Track; 32]) -> [C
         volume: empty_level(),
         fade: empty_level(),
     };
-    let mut chunk = [none; 32];
+    let mut chunk = [none; TRACK_PLACES];
     let mut t = 0;
     while t < count {
         let line = lines[t];
@@ -104,11 +116,11 @@ fn chunk_tracks(lines: [TrackLine; 32], count: usize, tracks: [Track; 32]) -> [C
     chunk
 }
 
-fn chunk_sends(count: usize, sends: [Parameter; 8]) -> [Level; 8]
-    requires { ⌜ count ≤ 8 ⌝ }
+fn chunk_sends(count: usize, sends: [Parameter; SEND_LINES]) -> [Level; SEND_LINES]
+    requires { ⌜ count ≤ sendLines ⌝ }
     ensures { λ r. ⌜ r ≡ chunkSends count sends ⌝ }
 {
-    let mut chunk = [empty_level(); 8];
+    let mut chunk = [empty_level(); SEND_LINES];
     let mut i = 0;
     while i < count {
         let send = sends[i];
@@ -119,13 +131,13 @@ fn chunk_sends(count: usize, sends: [Parameter; 8]) -> [Level; 8]
 }
 
 fn chunk_routes(
-    lines: [RouteLine; 64],
+    lines: [RouteLine; ROUTE_LINES],
     count: usize,
-    routes: [Parameter; 64],
-    table: &[u64; 1345],
-) -> [ChunkRoute; 64]
+    routes: [Parameter; ROUTE_LINES],
+    table: &GainTable,
+) -> [ChunkRoute; ROUTE_LINES]
     requires { ⌜ IsGainTable (now table) ⌝ }
-    requires { ⌜ count ≤ 64 ⌝ }
+    requires { ⌜ count ≤ routeLines ⌝ }
     requires { ⌜ ((r : ℕ) → r < count → T (admitted (parameterOf routes r .«raw_value» .0))) ⌝ }
     ensures { λ r. ⌜ r ≡ chunkRoutes lines count routes ⌝ }
 {
@@ -134,7 +146,7 @@ fn chunk_routes(
         send: 0,
         amplitude: Amplitude(0.0),
     };
-    let mut chunk = [none; 64];
+    let mut chunk = [none; ROUTE_LINES];
     let mut r = 0;
     while r < count {
         let line = lines[r];
@@ -145,8 +157,12 @@ fn chunk_routes(
     chunk
 }
 
-fn chunk_sounds(lines: [SoundLine; 64], count: usize, played: [usize; 64]) -> [ChunkSound; 64]
-    requires { ⌜ count ≤ 64 ⌝ }
+fn chunk_sounds(
+    lines: [SoundLine; SOUND_LINES],
+    count: usize,
+    played: [usize; SOUND_LINES],
+) -> [ChunkSound; SOUND_LINES]
+    requires { ⌜ count ≤ soundLines ⌝ }
     requires { ⌜ ((k : ℕ) → k < count → getD played k 0 ≤ getD lines k absentSoundLine .count) ⌝ }
     requires { ⌜ ((k : ℕ) → k < count → getD lines k absentSoundLine .first + getD lines k absentSoundLine .count < 2 ^ 63) ⌝ }
     ensures { λ r. ⌜ r ≡ chunkSounds lines count played ⌝ }
@@ -156,7 +172,7 @@ fn chunk_sounds(lines: [SoundLine; 64], count: usize, played: [usize; 64]) -> [C
         start: 0,
         left: 0,
     };
-    let mut chunk = [none; 64];
+    let mut chunk = [none; SOUND_LINES];
     let mut k = 0;
     while k < count {
         let line = lines[k];
@@ -168,7 +184,7 @@ fn chunk_sounds(lines: [SoundLine; 64], count: usize, played: [usize; 64]) -> [C
 }
 
 // The chunk of so many frames that mixing reads.
-pub fn chunk_of(scene: Scene, mixer: Mixer, frames: usize, table: &[u64; 1345]) -> Chunk
+pub fn chunk_of(scene: Scene, mixer: Mixer, frames: usize, table: &GainTable) -> Chunk
     requires { ⌜ IsGainTable (now table) ⌝ }
     requires { ⌜ SceneOk scene ⌝ }
     requires { ⌜ MixerMixes scene mixer ⌝ }

@@ -1,1 +1,1 @@
-// What a mixer keeps to while an accepted scene is rendered; see specs/. There is no code here.
+// What a mixer keeps to while an accepted scene is rendered; see proofs/laws/. There is no code here.

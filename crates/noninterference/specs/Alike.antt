@@ -1,4 +1,4 @@
--- When two scenes are alike but for what lies inside chosen tracks (document 01, "Demand 3's words"). A scene is its tables and its samples.
+-- When two scenes are alike but for what lies inside chosen tracks. A scene is its tables and its samples.
 use mathlib.Core.Bool.{Bool, true, false, cond, _&&_, _||_}
 use mathlib.Core.List.{List, [], _∷_, map}
 use Prim.Native.Nat.{ℕ, _*_}
@@ -7,7 +7,7 @@ use lib.ListN.{set, take, drop}
 use lib.Ieee.{Float, binary32, toBits}
 use Rattle.laws.specs.Kept.{keptOf}
 use Rattle.scene_tables.specs.Bytes.{every}
-use Rattle.scene_tables.specs.Tables.{natural, head, clocks, tracks, sends, routes, sounds, orders}
+use Rattle.scene_tables.specs.Tables.{natural, tracks, sounds, soundColumn}
 use Rattle.scene_questions.specs.Questions.{Tables, rowsAt, linesAt, field}
 use Rattle.noninterference.specs.Removed.{Choice, keptTracks, keptSounds, leftTables, linesLeft}
 use Rattle.noninterference.specs.Silent.{muted, held}
@@ -19,21 +19,14 @@ same test [] (y ∷ m) = false
 same test (x ∷ l) [] = false
 same test (x ∷ l) (y ∷ m) = test x y && same test l m
 
--- Lines left are the same in the same order. Where a sound's frames stand in the samples may differ: its frames are compared below.
-unfoldable pub sameLines : Tables → Tables → ℕ → Bool
-sameLines left₁ left₂ t = same (same eqb) (rowsAt left₁ t) (rowsAt left₂ t)
-
+-- Where a sound's frames stand in the samples may differ: its frames are compared below.
 unfoldable pub unplaced : List (List ℕ) → List (List ℕ)
-unplaced rows = map (λ row. set row 1 0) rows
+unplaced rows = map (λ row. set row (soundColumn .first) 0) rows
 
+-- The lines left are the same in the same order.
 unfoldable pub sameTables : Tables → Tables → Bool
 sameTables left₁ left₂ =
-    sameLines left₁ left₂ head
-    && (sameLines left₁ left₂ clocks
-    && (sameLines left₁ left₂ tracks
-    && (sameLines left₁ left₂ sends
-    && (sameLines left₁ left₂ routes
-    && (same (same eqb) (unplaced (rowsAt left₁ sounds)) (unplaced (rowsAt left₂ sounds)) && sameLines left₁ left₂ orders)))))
+    same (same (same eqb)) (set left₁ sounds (unplaced (rowsAt left₁ sounds))) (set left₂ sounds (unplaced (rowsAt left₂ sounds)))
 
 -- which of the tracks left are chosen
 unfoldable pub chosenLeft : Tables → Choice → List (List ℕ)
@@ -42,7 +35,7 @@ chosenLeft ts chosen = linesLeft (keptTracks ts chosen) (λ t row. cond (chosen 
 -- the samples of the frames that each sound left plays: count frames from first on
 unfoldable pub framesLeft : Tables → Choice → List Float → List (List Float)
 framesLeft ts chosen samples =
-    map (λ row. take (2 * natural (field row 2)) (drop (2 * natural (field row 1)) samples)) (keptOf (keptSounds ts chosen) (rowsAt ts sounds))
+    map (λ row. take (2 * natural (field row (soundColumn .count))) (drop (2 * natural (field row (soundColumn .first))) samples)) (keptOf (keptSounds ts chosen) (rowsAt ts sounds))
 
 unfoldable pub sameBits : Float → Float → Bool
 sameBits x y = eqb (toBits binary32 x) (toBits binary32 y)

@@ -1,4 +1,4 @@
--- What lies inside chosen tracks (document 01, "Demand 3's words"). 01 calls the lines that are removed here struck.
+-- What lies inside chosen tracks: the lines that are removed (the customer's word is struck), and those that are left.
 -- A choice says of each line of the tracks table, counted from 0, whether it is chosen.
 use mathlib.Core.Bool.{Bool, false, not, cond, _||_}
 use Prim.Native.Nat.{ℕ, zero, suc}
@@ -7,7 +7,7 @@ use mathlib.Core.List.{List, [], _∷_}
 use lib.ListN.{length, set}
 use Rattle.laws.specs.Kept.{rank, keptOf}
 use Rattle.laws.specs.Loop.{changed}
-use Rattle.scene_tables.specs.Tables.{natural, head, clocks, tracks, sends, routes, sounds, orders, raised}
+use Rattle.scene_tables.specs.Tables.{natural, head, clocks, tracks, sends, routes, sounds, orders, raised, trackColumn, routeColumn, soundColumn, orderColumn, orderKind}
 use Rattle.scene_questions.specs.Questions.{Tables, rowsAt, field, cell, parentOf}
 
 -- the number of a line among the lines kept
@@ -40,18 +40,19 @@ namesRemoved removed zero = false
 namesRemoved removed (suc i) = removed i
 
 unfoldable pub removedRoute : Tables → Choice → ℕ → Bool
-removedRoute ts chosen r = namesRemoved (removedTrack ts chosen) (natural (cell (rowsAt ts routes) r 0))
+removedRoute ts chosen r = namesRemoved (removedTrack ts chosen) (natural (cell (rowsAt ts routes) r (routeColumn .track)))
 
 -- the sounds of chosen tracks, and those of removed ones
 unfoldable pub removedSound : Tables → Choice → ℕ → Bool
-removedSound ts chosen k = inside ts chosen (natural (cell (rowsAt ts sounds) k 0))
+removedSound ts chosen k = inside ts chosen (natural (cell (rowsAt ts sounds) k (soundColumn .track)))
 
--- the orders that name a removed track or route: kind 2 is about send tracks, kind 3 about routes, and kind 0 names no line
+-- the orders that name a removed track or route: one of the main volume names no line
 unfoldable pub removedOrder : Tables → Choice → ℕ → Bool
 removedOrder ts chosen i =
-    let kind = cell (rowsAt ts orders) i 1 in
-    let index = natural (cell (rowsAt ts orders) i 2) in
-    cond (eqb kind (raised 2)) false (cond (eqb kind (raised 3)) (namesRemoved (removedRoute ts chosen) index) (namesRemoved (removedTrack ts chosen) index))
+    let kind = cell (rowsAt ts orders) i (orderColumn .kind) in
+    let index = natural (cell (rowsAt ts orders) i (orderColumn .index)) in
+    cond (eqb kind (orderKind .sendVolume)) false
+    (cond (eqb kind (orderKind .routeVolume)) (namesRemoved (removedRoute ts chosen) index) (namesRemoved (removedTrack ts chosen) index))
 
 -- ---- the lines left, with references counted among those lines alone
 
@@ -73,7 +74,9 @@ renumbered keep j row = set row j (raised (newLine keep (natural (field row j)))
 
 unfoldable pub renumberedOrder : Tables → Choice → List ℕ → List ℕ
 renumberedOrder ts chosen row =
-    cond (eqb (field row 1) (raised 2)) row (cond (eqb (field row 1) (raised 3)) (renumbered (keptRoutes ts chosen) 2 row) (renumbered (keptTracks ts chosen) 2 row))
+    let kind = field row (orderColumn .kind) in
+    cond (eqb kind (orderKind .sendVolume)) row
+    (cond (eqb kind (orderKind .routeVolume)) (renumbered (keptRoutes ts chosen) (orderColumn .index) row) (renumbered (keptTracks ts chosen) (orderColumn .index) row))
 
 -- the lines left of a table, each made anew
 unfoldable pub linesLeft : (ℕ → Bool) → (ℕ → List ℕ → List ℕ) → List (List ℕ) → List (List ℕ)
@@ -83,9 +86,9 @@ unfoldable pub leftTables : Tables → Choice → Tables
 leftTables ts chosen =
     rowsAt ts head
     ∷ rowsAt ts clocks
-    ∷ linesLeft (keptTracks ts chosen) (λ t row. renumbered (keptTracks ts chosen) 0 row) (rowsAt ts tracks)
+    ∷ linesLeft (keptTracks ts chosen) (λ t row. renumbered (keptTracks ts chosen) (trackColumn .parent) row) (rowsAt ts tracks)
     ∷ rowsAt ts sends
-    ∷ linesLeft (keptRoutes ts chosen) (λ r row. renumbered (keptTracks ts chosen) 0 row) (rowsAt ts routes)
-    ∷ linesLeft (keptSounds ts chosen) (λ k row. renumbered (keptTracks ts chosen) 0 row) (rowsAt ts sounds)
+    ∷ linesLeft (keptRoutes ts chosen) (λ r row. renumbered (keptTracks ts chosen) (routeColumn .track) row) (rowsAt ts routes)
+    ∷ linesLeft (keptSounds ts chosen) (λ k row. renumbered (keptTracks ts chosen) (soundColumn .track) row) (rowsAt ts sounds)
     ∷ linesLeft (keptOrders ts chosen) (λ i row. renumberedOrder ts chosen row) (rowsAt ts orders)
     ∷ []

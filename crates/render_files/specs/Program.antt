@@ -1,30 +1,26 @@
--- The render program (document 01): what it prints, over the bytes of its two files.
-use mathlib.Core.Bool.{Bool, cond, not, _&&_}
+-- The render program: what it prints, over the bytes of its two files.
+use mathlib.Core.Path.{_≡_}
+use mathlib.Core.Bool.{cond}
 use mathlib.Core.List.{List, [], _∷_, _++_}
 use Prim.Native.Nat.{ℕ, zero, suc, _+_, _*_, _/_, _%_}
 use lib.Dec.{eqb, leb, ltb}
-use lib.ListN.{length, getD}
+use lib.ListN.{length, getD, take}
 use lib.Ieee.{Float, nan, binary32, ofBits, toBits}
-use Rattle.laws.specs.Pieces.{pieces}
+use Rattle.limits.specs.Limits.{fileBytes}
+use Rattle.laws.specs.Pieces.{pieces, begun}
 use Rattle.float_bits.specs.Bits.{wordFrom}
 use Rattle.scene_tables.specs.Bytes.{bytesOf}
 use Rattle.scene_file.specs.Grammar.{tablesOf}
-use Rattle.scene_questions.specs.Questions.{asked, answer, outputLength}
+use Rattle.scene_questions.specs.Questions.{outputLength, firstNo, inputQuestions}
 use Rattle.scene.specs.Scene.{sceneOf}
+use Rattle.scene_reader.specs.Answer.{also}
 use Rattle.renderer.specs.Renderer.{rendered}
 
 -- ---- samples.raw: f32, little-endian
 
-unfoldable pub wordAt : List ℕ → ℕ → ℕ
-wordAt raw i = wordFrom raw (4 * i)
-
 -- the whole samples
 unfoldable pub samplesOf : List ℕ → List Float
-samplesOf raw = pieces (λ i. ofBits binary32 (wordAt raw i) ∷ []) (length raw / 4)
-
--- the last number is cut short
-unfoldable pub broken : List ℕ → Bool
-broken raw = not (eqb (length raw % 4) 0)
+samplesOf raw = pieces (λ i. ofBits binary32 (wordFrom raw (4 * i)) ∷ []) (length raw / 4)
 
 -- ---- the number
 
@@ -32,14 +28,12 @@ broken raw = not (eqb (length raw % 4) 0)
 abbrev pub most : ℕ
 most = 8192
 
--- Question 12 is asked before question 1 and after question 9. A broken last number is 8, where question 8 stands. The output is made as long as question 10
--- asks, so that the library's answer is that of questions 1 to 9.
+-- Questions 1 to 9, where a last number that is cut short is a no to question 8; and question 12 before them, of the samples, and after them, of the
+-- output, which is made as long as question 10 asks.
 unfoldable pub programAnswer : List ℕ → List ℕ → ℕ
 programAnswer file raw =
-    let output = outputLength (tablesOf file) in
-    let number = answer file (samplesOf raw) output in
-    asked (leb (length raw / 4) most) 12
-    (cond (broken raw && not (leb 1 number && leb number 7)) 8 (cond (eqb number 0) (asked (leb output most) 12 0) number))
+    firstNo ((12, leb (length raw / 4) most)
+    ∷ (also 8 (eqb (length raw % 4) 0) (inputQuestions file (samplesOf raw)) ++ ((12, leb (outputLength (tablesOf file)) most) ∷ [])))
 
 -- ---- what is printed
 
@@ -68,3 +62,30 @@ printed file raw =
     let number = programAnswer file raw in
     let scene = sceneOf (tablesOf file) in
     cond (eqb number 0) (printedOutput (scene .head .block * scene .head .channels) (rendered scene (samplesOf raw))) (printedRefusal number)
+
+-- how many bytes there are at most: of a number and the byte after it, of a line, and of the names line
+abbrev pub numberBytes : ℕ
+numberBytes = 11
+
+abbrev pub lineBytes : ℕ
+lineBytes = 3 * numberBytes
+
+abbrev pub namesBytes : ℕ
+namesBytes = 17
+
+-- ---- what the program reads of its files
+
+-- one byte more than question 1 allows, and the bytes of one sample more than question 12 allows
+abbrev pub sceneBytes : ℕ
+sceneBytes = fileBytes + 1
+
+abbrev pub sampleBytes : ℕ
+sampleBytes = 4 * (most + 1)
+
+-- the first n bytes of a buffer are the first bytes of a file, as many as the buffer takes
+abbrev pub FirstOf : List ℕ → List ℕ → ℕ → Type 0
+FirstOf file buffer n = take n buffer ≡ take (length buffer) file
+
+-- the text of two files stands at the start of a buffer, whose contents were `before`
+abbrev pub TextOf : List ℕ → List ℕ → List ℕ → ℕ → List ℕ → Type 0
+TextOf file raw before n after = (n ≡ length (printed file raw)) × (after ≡ begun (printed file raw) before)

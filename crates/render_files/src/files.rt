@@ -1,77 +1,69 @@
 // The render program, over the bytes of scene.txt and samples.raw.
 ghost use mathlib.Core.Path.{_≡_};
-ghost use mathlib.Core.Bool.{Bool, true, cond, not, _&&_};
-ghost use Prim.Native.Nat.{_*_, _/_, _≤_};
-ghost use lib.Dec.{leb};
+ghost use mathlib.Core.List.{List};
+ghost use Prim.Native.Nat.{ℕ, _*_, _/_, _≤_};
 ghost use lib.ListN.{length, take};
+ghost use Rattle.io.specs.Counts.{Counts};
 ghost use Rattle.laws.specs.Pieces.{begun};
 ghost use Rattle.scene_file.specs.Grammar.{tablesOf};
 ghost use Rattle.scene_questions.specs.Questions.{answer};
 ghost use Rattle.scene.specs.Scene.{sceneOf};
 ghost use Rattle.renderer.specs.Renderer.{rendered};
-ghost use Rattle.render_files.specs.Program.{samplesOf, most, printedOutput, printed};
+ghost use Rattle.render_files.specs.Program.{samplesOf, most, printedOutput, printed, sceneBytes, sampleBytes, FirstOf, TextOf};
+use crate::print::LINE_BYTES;
+use crate::print::NAMES_BYTES;
 use crate::print::put_output;
 use crate::print::put_refusal;
 use crate::samples::read_samples;
+use limits::FILE_BYTES;
 
 // The most whole samples, and the most samples of an output.
 const MOST: usize = 8192;
 
-// Room for all that can be printed: the names line and a line for each sample, of three numbers of at
-// most ten digits, each with a byte after it.
-pub const TEXT: usize = 270353;
+// One byte more than question 1 allows, and the bytes of one sample more than question 12 allows: what longer files have behind
+// those changes nothing (`first-bytes`).
+pub const SCENE_BYTES: usize = FILE_BYTES + 1;
 
-// The number of questions 1 to 9 with the broken last number among them: 8, unless one of 1 to 7 said no.
-fn with_broken(number: u32, cut: bool) -> u32
-    ensures { λ r. ⌜ r ≡ cond (cut && not (leb 1 number && leb number 7)) 8 number ⌝ }
-{
-    if !cut {
-        return number;
-    }
-    if number == 0 {
-        return 8;
-    }
-    if number <= 7 {
-        return number;
-    }
-    8
-}
+pub const SAMPLE_BYTES: usize = 4 * (MOST + 1);
 
-// An accepted scene's output, printed. The room is for its samples.
-fn print_render(
+// Bytes for all that can be printed: the names line and a line for each sample.
+pub const TEXT: usize = NAMES_BYTES + MOST * LINE_BYTES;
+
+// An accepted scene's output, rendered and put as text.
+fn put_render(
     file: &[u8],
     samples: &[f32],
     width: usize,
     count: usize,
-    room: &mut [f32],
+    output: &mut [f32],
     text: &mut [u8; TEXT],
 ) -> usize
     requires { ⌜ 1 ≤ width ⌝ }
-    requires { ⌜ (count ≤ most) × (count ≤ length (now room)) ⌝ }
+    requires { ⌜ (count ≤ most) × (count ≤ length (now output)) ⌝ }
     requires { ⌜ answer (now file) (now samples) count ≡ 0 ⌝ }
     ensures length { λ r. ⌜ r ≡ length (printedOutput width (rendered (sceneOf (tablesOf (now (file .entry)))) (now (samples .entry)))) ⌝ }
     ensures text { λ _. ⌜ now (text .exit) ≡ begun (printedOutput width (rendered (sceneOf (tablesOf (now (file .entry)))) (now (samples .entry)))) (now (text .entry)) ⌝ }
 {
-    room_desk::render(file, samples, &mut room[0..count]);
-    put_output(text, width, &room[0..count])
+    room_desk::render(file, samples, &mut output[0..count]);
+    put_output(text, width, &output[0..count])
 }
 
-// Questions 1 to 9, the broken last number, and question 12 of the output.
-fn print_answer(
+// Questions 1 to 9, and question 12 of the output.
+fn put_answer(
     file: &[u8],
     raw: &[u8],
     samples: &[f32],
-    room: &mut [f32],
+    output: &mut [f32],
     text: &mut [u8; TEXT],
 ) -> usize
     requires { ⌜ length (now raw) / 4 ≤ most ⌝ }
     requires { ⌜ now samples ≡ samplesOf (now raw) ⌝ }
-    requires { ⌜ most ≤ length (now room) ⌝ }
+    requires { ⌜ most ≤ length (now output) ⌝ }
     ensures length { λ r. ⌜ r ≡ length (printed (now (file .entry)) (now (raw .entry))) ⌝ }
     ensures text { λ _. ⌜ now (text .exit) ≡ begun (printed (now (file .entry)) (now (raw .entry))) (now (text .entry)) ⌝ }
 {
-    let read = scene_reader::read_unmeasured(file, samples);
-    let number = with_broken(read.number, raw.len() % 4 != 0);
+    let read = scene_reader::read_input(file, samples, raw.len() % 4 == 0);
+    let number = read.number;
     if number != 0 {
         return put_refusal(text, number);
     }
@@ -82,11 +74,11 @@ fn print_answer(
     if MOST < count {
         return put_refusal(text, 12);
     }
-    print_render(file, samples, width, count, room, text)
+    put_render(file, samples, width, count, output, text)
 }
 
-// The samples are read into one room, and rendered into the other.
-fn print_files(
+// The samples are read into one buffer, and rendered into the other.
+fn put_files(
     file: &[u8],
     raw: &[u8],
     samples: &mut [f32],
@@ -100,7 +92,7 @@ fn print_files(
 {
     let count = raw.len() / 4;
     read_samples(raw, &mut samples[0..count]);
-    print_answer(file, raw, &samples[0..count], output, text)
+    put_answer(file, raw, &samples[0..count], output, text)
 }
 
 // Puts what the program prints for its two files to the start of the text, and answers how many bytes it has.
@@ -114,5 +106,16 @@ pub fn render_text(file: &[u8], raw: &[u8], text: &mut [u8; TEXT]) -> usize
     }
     let mut samples = [0.0f32; MOST];
     let mut output = [0.0f32; MOST];
-    print_files(file, raw, &mut samples, &mut output, text)
+    put_files(file, raw, &mut samples, &mut output, text)
+}
+
+// The same from the first bytes of both files, as many as buffers of these sizes take: whatever else the files have, the text is theirs.
+pub fn render_read(scene: &[u8], m: usize, samples: &[u8], n: usize, text: &mut [u8; TEXT]) -> usize
+    requires { ⌜ (length (now scene) ≡ sceneBytes) × (length (now samples) ≡ sampleBytes) ⌝ }
+    requires { ⌜ Counts m (now scene) ⌝ }
+    requires { ⌜ Counts n (now samples) ⌝ }
+    ensures text { λ r. ⌜ ((file raw : List ℕ) → FirstOf file (now (scene .entry)) m → FirstOf raw (now (samples .entry)) n → TextOf file raw (now (text .entry)) r (now (text .exit))) ⌝ }
+    ensures within { λ r. ⌜ (r ≤ length (now (text .exit))) × (r ≡ length (take r (now (text .exit)))) ⌝ }
+{
+    render_text(&scene[..m], &samples[..n], text)
 }

@@ -4,7 +4,14 @@ ghost use mathlib.Core.List.{[], _∷_, _++_};
 ghost use Prim.Native.Nat.{_+_, _*_, _≤_, _<_};
 ghost use lib.ListN.{length};
 ghost use Rattle.laws.specs.Pieces.{begun, putAt};
-ghost use Rattle.render_files.specs.Program.{most, decimalWithin, decimal, line, printedOutput, printedRefusal};
+ghost use Rattle.render_files.specs.Program.{most, numberBytes, lineBytes, namesBytes, decimalWithin, decimal, line, printedOutput, printedRefusal};
+
+// Bytes at most: of a number, with the byte after it, of a line, and of the names line.
+pub const NUMBER_BYTES: usize = 11;
+
+pub const LINE_BYTES: usize = 3 * NUMBER_BYTES;
+
+pub const NAMES_BYTES: usize = 17;
 
 fn digit(n: u32) -> u8
     requires { ⌜ n < 10 ⌝ }
@@ -34,7 +41,7 @@ fn put_decimal(text: &mut [u8], at: usize, steps: usize, n: u32) -> usize
 
 // A number, and the byte after it.
 fn put_number(text: &mut [u8], at: usize, n: u32, after: u8) -> usize
-    requires { ⌜ at + 11 ≤ length (now text) ⌝ }
+    requires { ⌜ at + numberBytes ≤ length (now text) ⌝ }
     ensures place { λ r. ⌜ r ≡ at + length (decimal n ++ (after ∷ [])) ⌝ }
     ensures text { λ _. ⌜ now (text .exit) ≡ putAt at (decimal n ++ (after ∷ [])) (now (text .entry)) ⌝ }
 {
@@ -44,7 +51,7 @@ fn put_number(text: &mut [u8], at: usize, n: u32, after: u8) -> usize
 }
 
 fn put_line(text: &mut [u8], at: usize, block: u32, place: u32, bits: u32) -> usize
-    requires { ⌜ at + 33 ≤ length (now text) ⌝ }
+    requires { ⌜ at + lineBytes ≤ length (now text) ⌝ }
     ensures place { λ r. ⌜ r ≡ at + length (line block place bits) ⌝ }
     ensures text { λ _. ⌜ now (text .exit) ≡ putAt at (line block place bits) (now (text .entry)) ⌝ }
 {
@@ -70,7 +77,7 @@ fn put_text(text: &mut [u8], at: usize, piece: &[u8]) -> usize
 pub fn put_output(text: &mut [u8], width: usize, output: &[f32]) -> usize
     requires { ⌜ 1 ≤ width ⌝ }
     requires { ⌜ length (now output) ≤ most ⌝ }
-    requires { ⌜ 17 + most * 33 ≤ length (now text) ⌝ }
+    requires { ⌜ namesBytes + most * lineBytes ≤ length (now text) ⌝ }
     ensures length { λ r. ⌜ r ≡ length (printedOutput width (now (output .entry))) ⌝ }
     ensures text { λ _. ⌜ now (text .exit) ≡ begun (printedOutput width (now (output .entry))) (now (text .entry)) ⌝ }
 {
@@ -86,7 +93,7 @@ pub fn put_output(text: &mut [u8], width: usize, output: &[f32]) -> usize
 }
 
 pub fn put_refusal(text: &mut [u8], number: u32) -> usize
-    requires { ⌜ 19 ≤ length (now text) ⌝ }
+    requires { ⌜ 8 + numberBytes ≤ length (now text) ⌝ }
     ensures length { λ r. ⌜ r ≡ length (printedRefusal number) ⌝ }
     ensures text { λ _. ⌜ now (text .exit) ≡ begun (printedRefusal number) (now (text .entry)) ⌝ }
 {

@@ -2,21 +2,25 @@
 ghost use mathlib.Core.Path.{_≡_};
 ghost use Prim.Native.Nat.{ℕ, _+_, _*_, _^_, _≤_, _<_};
 ghost use lib.ListN.{length};
+ghost use Rattle.limits.specs.Limits.{chunkFramesMost, blockFramesMost, channelsMost, rateMost};
 ghost use Rattle.laws.specs.Pieces.{pieces, putAt};
 ghost use Rattle.gain_table.specs.GainTable.{IsGainTable};
 ghost use Rattle.clock.specs.ChunkTime.{chunkTime};
 ghost use Rattle.accepted.specs.SceneOk.{SceneOk, SamplesOk};
-ghost use Rattle.frame.specs.Frame.{frameAt, clamped};
+ghost use Rattle.frame.specs.Frame.{clamped};
+ghost use Rattle.frame.specs.Layout.{scratch, frameAt};
 ghost use Rattle.mixer.specs.MixerOk.{MixerOk};
 ghost use Rattle.renderer.specs.Renderer.{chunkCount, chunkFrames, channelAt, channelsOf, inChunk, chunkDone, chunksDone, chunkSamples, blockSamples};
 use frame::Frame;
 use frame::frame_at;
+use gain_table::GainTable;
+use limits::CHUNK_FRAMES;
 use mixer::Mixer;
 use scene::Head;
 use scene::Scene;
 
 pub fn chunk_count(head: Head) -> usize
-    requires { ⌜ (1 ≤ head .buffer) × (head .buffer ≤ 256) × (head .block ≤ 512) ⌝ }
+    requires { ⌜ (1 ≤ head .buffer) × (head .buffer ≤ chunkFramesMost) × (head .block ≤ blockFramesMost) ⌝ }
     ensures { λ r. ⌜ r ≡ chunkCount head ⌝ }
 {
     (head.block + head.buffer - 1) / head.buffer
@@ -25,7 +29,7 @@ pub fn chunk_count(head: Head) -> usize
 // A chunk of `buffer` frames, or what is left of the block.
 pub fn chunk_frames(head: Head, k: usize) -> usize
     requires { ⌜ k * head .buffer ≤ head .block ⌝ }
-    requires { ⌜ head .block ≤ 512 ⌝ }
+    requires { ⌜ head .block ≤ blockFramesMost ⌝ }
     ensures { λ r. ⌜ r ≡ chunkFrames head k ⌝ }
 {
     let left = head.block - k * head.buffer;
@@ -37,7 +41,7 @@ pub fn chunk_frames(head: Head, k: usize) -> usize
 
 // (1.0 / rate) * n, as kira has it.
 pub fn chunk_seconds(rate: usize, frames: usize) -> f64
-    requires { ⌜ (rate ≤ 192000) × (frames ≤ 256) ⌝ }
+    requires { ⌜ (rate ≤ rateMost) × (frames ≤ chunkFramesMost) ⌝ }
     ensures { λ r. ⌜ r ≡ chunkTime rate frames ⌝ }
 {
     (1.0 / (rate as f64)) * (frames as f64)
@@ -75,12 +79,12 @@ fn write_frame(out: &mut [f32], at: usize, channels: usize, frame: Frame)
 fn write_stereo(out: &mut [f32], mix: &[f32], frames: usize)
     requires { ⌜ length (now out) ≡ frames * 2 ⌝ }
     requires { ⌜ 2 * frames ≤ length (now mix) ⌝ }
-    requires { ⌜ frames ≤ 256 ⌝ }
-    ensures { λ _. ⌜ now (out .exit) ≡ pieces (λ i. channelsOf 2 (clamped (frameAt (now (mix .entry)) i))) frames ⌝ }
+    requires { ⌜ frames ≤ chunkFramesMost ⌝ }
+    ensures { λ _. ⌜ now (out .exit) ≡ pieces (λ i. channelsOf 2 (clamped (frameAt (scratch 0 frames) (now (mix .entry)) i))) frames ⌝ }
 {
     let mut i = 0;
     while i < frames {
-        let sides = frame_at(mix, i).clamped();
+        let sides = frame_at(mix, 0, frames, i).clamped();
         out[2 * i] = sides.left;
         out[2 * i + 1] = sides.right;
         i += 1;
@@ -91,12 +95,12 @@ fn write_stereo(out: &mut [f32], mix: &[f32], frames: usize)
 fn write_channels(out: &mut [f32], channels: usize, mix: &[f32], frames: usize)
     requires { ⌜ length (now out) ≡ frames * channels ⌝ }
     requires { ⌜ 2 * frames ≤ length (now mix) ⌝ }
-    requires { ⌜ (frames ≤ 256) × (channels ≤ 8) ⌝ }
-    ensures { λ _. ⌜ now (out .exit) ≡ pieces (λ i. channelsOf channels (clamped (frameAt (now (mix .entry)) i))) frames ⌝ }
+    requires { ⌜ (frames ≤ chunkFramesMost) × (channels ≤ channelsMost) ⌝ }
+    ensures { λ _. ⌜ now (out .exit) ≡ pieces (λ i. channelsOf channels (clamped (frameAt (scratch 0 frames) (now (mix .entry)) i))) frames ⌝ }
 {
     let mut i = 0;
     while i < frames {
-        let frame = frame_at(mix, i).clamped();
+        let frame = frame_at(mix, 0, frames, i).clamped();
         write_frame(out, i * channels, channels, frame);
         i += 1;
     }
@@ -106,8 +110,8 @@ fn write_channels(out: &mut [f32], channels: usize, mix: &[f32], frames: usize)
 pub fn write_frames(out: &mut [f32], channels: usize, mix: &[f32], frames: usize)
     requires { ⌜ length (now out) ≡ frames * channels ⌝ }
     requires { ⌜ 2 * frames ≤ length (now mix) ⌝ }
-    requires { ⌜ (frames ≤ 256) × (channels ≤ 8) ⌝ }
-    ensures { λ _. ⌜ now (out .exit) ≡ pieces (λ i. channelsOf channels (clamped (frameAt (now (mix .entry)) i))) frames ⌝ }
+    requires { ⌜ (frames ≤ chunkFramesMost) × (channels ≤ channelsMost) ⌝ }
+    ensures { λ _. ⌜ now (out .exit) ≡ pieces (λ i. channelsOf channels (clamped (frameAt (scratch 0 frames) (now (mix .entry)) i))) frames ⌝ }
 {
     if channels == 2 {
         write_stereo(out, mix, frames);
@@ -121,7 +125,7 @@ fn process_chunk(
     state: Mixer,
     scene: Scene,
     samples: &[f32],
-    table: &[u64; 1345],
+    table: &GainTable,
     k: usize,
     out: &mut [f32],
 ) -> Mixer
@@ -139,7 +143,7 @@ fn process_chunk(
     let dt = chunk_seconds(head.rate, frames);
     let moved = state.update(scene, dt);
     let chunk = mixer_chunk::chunk_of(scene, moved, frames, table);
-    let mut mix = [0.0f32; 512];
+    let mut mix = [0.0f32; 2 * CHUNK_FRAMES];
     track::process(chunk, table, samples, &mut mix);
     write_frames(out, head.channels, &mix, frames);
     moved.sounds_played(scene, frames)
@@ -150,7 +154,7 @@ pub fn process_block(
     state: Mixer,
     scene: Scene,
     samples: &[f32],
-    table: &[u64; 1345],
+    table: &GainTable,
     out: &mut [f32],
 ) -> Mixer
     requires { ⌜ IsGainTable (now table) ⌝ }

@@ -1,25 +1,42 @@
 // A scene: the tables of an accepted file. Line numbers count from 1, as in the file.
 ghost use mathlib.Core.Path.{_≡_};
 ghost use mathlib.Core.Bool.{true};
+ghost use mathlib.Core.List.{[]};
 ghost use Prim.Native.Nat.{_+_, _-_, _*_, _≤_};
 ghost use lib.ListN.{take, drop};
-ghost use Rattle.scene_questions.specs.Places.{rowsIn, stored, countsFit, Low};
-ghost use Rattle.scene.specs.Scene.{volumeOf, kindOf, clockTimeOf, startTimeOf, easingOf, headOf, clockOf, trackOf, sendOf, routeOf, soundOf, orderOf, emptyHead, emptyClockLine, emptyTrackLine, emptySendLine, emptyRouteLine, emptySoundLine, emptyOrderLine, filled, sceneOf, emptyScene};
+ghost use Rattle.limits.specs.Limits.{clockLines, trackLines, sendLines, routeLines, soundLines, orderLines};
+ghost use Rattle.scene_tables.specs.Tables.{tableAt, width, head, clocks, tracks, sends, routes, sounds, orders};
+ghost use Rattle.scene_questions.specs.Places.{rowsIn, stored, countsFit, placesMost, Low};
+ghost use Rattle.scene.specs.Scene.{volumeOf, kindOf, clockTimeOf, startTimeOf, easingOf, headOf, clockOf, trackOf, sendOf, routeOf, soundOf, orderOf, filled, sceneOf};
 use clock::ClockSpeed;
 use clock::ClockTime;
 use decibels::Decibels;
+use limits::CLOCK_LINES;
+use limits::ORDER_LINES;
+use limits::ROUTE_LINES;
+use limits::SEND_LINES;
+use limits::SOUND_LINES;
+use limits::TRACK_LINES;
 use scene_file::at;
 use scene_file::natural_of;
 use scene_rules::speed_of;
 use scene_tables::CLOCKS;
 use scene_tables::HEAD;
+use scene_tables::KIND_MAIN_VOLUME;
+use scene_tables::KIND_PAUSE;
+use scene_tables::KIND_ROUTE_VOLUME;
+use scene_tables::KIND_SEND_VOLUME;
+use scene_tables::KIND_TRACK_VOLUME;
+use scene_tables::ONE;
 use scene_tables::ORDERS;
 use scene_tables::ROUTES;
 use scene_tables::SENDS;
 use scene_tables::SOUNDS;
 use scene_tables::TABLES;
 use scene_tables::TRACKS;
+use scene_tables::TWO;
 use scene_tables::ZERO;
+use scene_tables::column;
 use tween::Easing;
 use tween::StartTime;
 
@@ -84,17 +101,17 @@ pub struct OrderLine {
 pub struct Scene {
     pub head: Head,
     pub clock_count: usize,
-    pub clocks: [ClockLine; 8],
+    pub clocks: [ClockLine; CLOCK_LINES],
     pub track_count: usize,
-    pub tracks: [TrackLine; 32],
+    pub tracks: [TrackLine; TRACK_LINES],
     pub send_count: usize,
-    pub sends: [SendLine; 8],
+    pub sends: [SendLine; SEND_LINES],
     pub route_count: usize,
-    pub routes: [RouteLine; 64],
+    pub routes: [RouteLine; ROUTE_LINES],
     pub sound_count: usize,
-    pub sounds: [SoundLine; 64],
+    pub sounds: [SoundLine; SOUND_LINES],
     pub order_count: usize,
-    pub orders: [OrderLine; 128],
+    pub orders: [OrderLine; ORDER_LINES],
 }
 
 // Thousandths of a decibel, made an f32 by dividing by 1000.
@@ -110,19 +127,19 @@ fn volume_of(z: u32) -> Decibels
 fn kind_of(z: u32) -> OrderKind
     ensures { λ r. ⌜ r ≡ kindOf z ⌝ }
 {
-    if z == ZERO {
+    if z == KIND_MAIN_VOLUME {
         return OrderKind::MainVolume;
     }
-    if z == ZERO + 1 {
+    if z == KIND_TRACK_VOLUME {
         return OrderKind::TrackVolume;
     }
-    if z == ZERO + 2 {
+    if z == KIND_SEND_VOLUME {
         return OrderKind::SendVolume;
     }
-    if z == ZERO + 3 {
+    if z == KIND_ROUTE_VOLUME {
         return OrderKind::RouteVolume;
     }
-    if z == ZERO + 4 {
+    if z == KIND_PAUSE {
         return OrderKind::Pause;
     }
     OrderKind::Resume
@@ -167,246 +184,183 @@ fn easing_of(easing: u32, power: u32) -> Easing
     if easing == ZERO {
         return Easing::Linear;
     }
-    if easing == ZERO + 1 {
+    if easing == ONE {
         return Easing::InPowi(n);
     }
-    if easing == ZERO + 2 {
+    if easing == TWO {
         return Easing::OutPowi(n);
     }
     Easing::InOutPowi(n)
 }
 
 fn head_of(values: &[u32], a: usize) -> Head
-    ensures { λ r. ⌜ r ≡ headOf (take 6 (drop a (now (values .entry)))) ⌝ }
+    ensures { λ r. ⌜ r ≡ headOf (take (width (tableAt head)) (drop a (now (values .entry)))) ⌝ }
 {
     Head {
-        rate: natural_of(at(values, a, 0)),
-        channels: natural_of(at(values, a, 1)),
-        buffer: natural_of(at(values, a, 2)),
-        block: natural_of(at(values, a, 3)),
-        blocks: natural_of(at(values, a, 4)),
-        volume: volume_of(at(values, a, 5)),
+        rate: natural_of(at(values, a, column::HEAD_RATE)),
+        channels: natural_of(at(values, a, column::HEAD_CHANNELS)),
+        buffer: natural_of(at(values, a, column::HEAD_BUFFER)),
+        block: natural_of(at(values, a, column::HEAD_BLOCK)),
+        blocks: natural_of(at(values, a, column::HEAD_BLOCKS)),
+        volume: volume_of(at(values, a, column::HEAD_VOLUME)),
     }
 }
 
 fn clock_line_of(values: &[u32], a: usize) -> ClockLine
-    ensures { λ r. ⌜ r ≡ clockOf (take 3 (drop a (now (values .entry)))) ⌝ }
+    ensures { λ r. ⌜ r ≡ clockOf (take (width (tableAt clocks)) (drop a (now (values .entry)))) ⌝ }
 {
     ClockLine {
-        speed: speed_of(at(values, a, 0), at(values, a, 1)),
-        ticking: at(values, a, 2) == ZERO + 1,
+        speed: speed_of(
+            at(values, a, column::CLOCK_UNIT),
+            at(values, a, column::CLOCK_SPEED),
+        ),
+        ticking: at(values, a, column::CLOCK_TICKING) == ONE,
     }
 }
 
 fn track_line_of(values: &[u32], a: usize) -> TrackLine
-    ensures { λ r. ⌜ r ≡ trackOf (take 2 (drop a (now (values .entry)))) ⌝ }
+    ensures { λ r. ⌜ r ≡ trackOf (take (width (tableAt tracks)) (drop a (now (values .entry)))) ⌝ }
 {
     TrackLine {
-        parent: natural_of(at(values, a, 0)),
-        volume: volume_of(at(values, a, 1)),
+        parent: natural_of(at(values, a, column::TRACK_PARENT)),
+        volume: volume_of(at(values, a, column::TRACK_VOLUME)),
     }
 }
 
 fn send_line_of(values: &[u32], a: usize) -> SendLine
-    ensures { λ r. ⌜ r ≡ sendOf (take 1 (drop a (now (values .entry)))) ⌝ }
+    ensures { λ r. ⌜ r ≡ sendOf (take (width (tableAt sends)) (drop a (now (values .entry)))) ⌝ }
 {
     SendLine {
-        volume: volume_of(at(values, a, 0)),
+        volume: volume_of(at(values, a, column::SEND_VOLUME)),
     }
 }
 
 fn route_line_of(values: &[u32], a: usize) -> RouteLine
-    ensures { λ r. ⌜ r ≡ routeOf (take 3 (drop a (now (values .entry)))) ⌝ }
+    ensures { λ r. ⌜ r ≡ routeOf (take (width (tableAt routes)) (drop a (now (values .entry)))) ⌝ }
 {
     RouteLine {
-        track: natural_of(at(values, a, 0)),
-        send: natural_of(at(values, a, 1)),
-        volume: volume_of(at(values, a, 2)),
+        track: natural_of(at(values, a, column::ROUTE_TRACK)),
+        send: natural_of(at(values, a, column::ROUTE_SEND)),
+        volume: volume_of(at(values, a, column::ROUTE_VOLUME)),
     }
 }
 
 fn sound_line_of(values: &[u32], a: usize) -> SoundLine
-    ensures { λ r. ⌜ r ≡ soundOf (take 3 (drop a (now (values .entry)))) ⌝ }
+    ensures { λ r. ⌜ r ≡ soundOf (take (width (tableAt sounds)) (drop a (now (values .entry)))) ⌝ }
 {
     SoundLine {
-        track: natural_of(at(values, a, 0)),
-        first: natural_of(at(values, a, 1)),
-        count: natural_of(at(values, a, 2)),
+        track: natural_of(at(values, a, column::SOUND_TRACK)),
+        first: natural_of(at(values, a, column::SOUND_FIRST)),
+        count: natural_of(at(values, a, column::SOUND_COUNT)),
     }
 }
 
 fn order_line_of(values: &[u32], a: usize) -> OrderLine
-    ensures { λ r. ⌜ r ≡ orderOf (take 10 (drop a (now (values .entry)))) ⌝ }
+    ensures { λ r. ⌜ r ≡ orderOf (take (width (tableAt orders)) (drop a (now (values .entry)))) ⌝ }
 {
     OrderLine {
-        block: natural_of(at(values, a, 0)),
-        kind: kind_of(at(values, a, 1)),
-        index: natural_of(at(values, a, 2)),
-        target: volume_of(at(values, a, 3)),
-        start_time: start_time_of(at(values, a, 4), at(values, a, 5), at(values, a, 6)),
-        millis: natural_of(at(values, a, 7)) as u64,
-        easing: easing_of(at(values, a, 8), at(values, a, 9)),
+        block: natural_of(at(values, a, column::ORDER_BLOCK)),
+        kind: kind_of(at(values, a, column::ORDER_KIND)),
+        index: natural_of(at(values, a, column::ORDER_INDEX)),
+        target: volume_of(at(values, a, column::ORDER_VOLUME)),
+        start_time: start_time_of(
+            at(values, a, column::ORDER_CLOCK),
+            at(values, a, column::ORDER_WHEN),
+            at(values, a, column::ORDER_PART),
+        ),
+        millis: natural_of(at(values, a, column::ORDER_MILLIS)) as u64,
+        easing: easing_of(
+            at(values, a, column::ORDER_EASING),
+            at(values, a, column::ORDER_POWER),
+        ),
     }
 }
 
-fn no_head() -> Head
-    ensures { λ r. ⌜ r ≡ emptyHead ⌝ }
+fn clock_lines(values: &[u32], start: usize, lines: usize) -> [ClockLine; CLOCK_LINES]
+    requires { ⌜ start + lines * width (tableAt clocks) ≤ placesMost ⌝ }
+    requires { ⌜ lines ≤ clockLines ⌝ }
+    ensures { λ r. ⌜ r ≡ filled clockLines clockOf (rowsIn (now (values .entry)) start (width (tableAt clocks)) lines) ⌝ }
 {
-    Head {
-        rate: 0,
-        channels: 0,
-        buffer: 0,
-        block: 0,
-        blocks: 0,
-        volume: Decibels(0.0),
-    }
-}
-
-fn no_clock() -> ClockLine
-    ensures { λ r. ⌜ r ≡ emptyClockLine ⌝ }
-{
-    ClockLine {
-        speed: ClockSpeed::SecondsPerTick(0.0),
-        ticking: false,
-    }
-}
-
-fn no_track() -> TrackLine
-    ensures { λ r. ⌜ r ≡ emptyTrackLine ⌝ }
-{
-    TrackLine {
-        parent: 0,
-        volume: Decibels(0.0),
-    }
-}
-
-fn no_send() -> SendLine
-    ensures { λ r. ⌜ r ≡ emptySendLine ⌝ }
-{
-    SendLine {
-        volume: Decibels(0.0),
-    }
-}
-
-fn no_route() -> RouteLine
-    ensures { λ r. ⌜ r ≡ emptyRouteLine ⌝ }
-{
-    RouteLine {
-        track: 0,
-        send: 0,
-        volume: Decibels(0.0),
-    }
-}
-
-fn no_sound() -> SoundLine
-    ensures { λ r. ⌜ r ≡ emptySoundLine ⌝ }
-{
-    SoundLine {
-        track: 0,
-        first: 0,
-        count: 0,
-    }
-}
-
-fn no_order() -> OrderLine
-    ensures { λ r. ⌜ r ≡ emptyOrderLine ⌝ }
-{
-    OrderLine {
-        block: 0,
-        kind: OrderKind::MainVolume,
-        index: 0,
-        target: Decibels(0.0),
-        start_time: StartTime::Immediate,
-        millis: 0,
-        easing: Easing::Linear,
-    }
-}
-
-fn clock_lines(values: &[u32], start: usize, lines: usize) -> [ClockLine; 8]
-    requires { ⌜ start + lines * 3 ≤ 100000 ⌝ }
-    requires { ⌜ lines ≤ 8 ⌝ }
-    ensures { λ r. ⌜ r ≡ filled 8 emptyClockLine clockOf (rowsIn (now (values .entry)) start 3 lines) ⌝ }
-{
-    let none = no_clock();
-    let mut out = [none; 8];
+    let none = clock_line_of(values, values.len());
+    let mut out = [none; CLOCK_LINES];
     let mut i = 0;
     while i < lines {
-        out[i] = clock_line_of(values, start + i * 3);
+        out[i] = clock_line_of(values, start + i * column::CLOCK_COLUMNS);
         i += 1;
     }
     out
 }
 
-fn track_lines(values: &[u32], start: usize, lines: usize) -> [TrackLine; 32]
-    requires { ⌜ start + lines * 2 ≤ 100000 ⌝ }
-    requires { ⌜ lines ≤ 32 ⌝ }
-    ensures { λ r. ⌜ r ≡ filled 32 emptyTrackLine trackOf (rowsIn (now (values .entry)) start 2 lines) ⌝ }
+fn track_lines(values: &[u32], start: usize, lines: usize) -> [TrackLine; TRACK_LINES]
+    requires { ⌜ start + lines * width (tableAt tracks) ≤ placesMost ⌝ }
+    requires { ⌜ lines ≤ trackLines ⌝ }
+    ensures { λ r. ⌜ r ≡ filled trackLines trackOf (rowsIn (now (values .entry)) start (width (tableAt tracks)) lines) ⌝ }
 {
-    let none = no_track();
-    let mut out = [none; 32];
+    let none = track_line_of(values, values.len());
+    let mut out = [none; TRACK_LINES];
     let mut i = 0;
     while i < lines {
-        out[i] = track_line_of(values, start + i * 2);
+        out[i] = track_line_of(values, start + i * column::TRACK_COLUMNS);
         i += 1;
     }
     out
 }
 
-fn send_lines(values: &[u32], start: usize, lines: usize) -> [SendLine; 8]
-    requires { ⌜ start + lines * 1 ≤ 100000 ⌝ }
-    requires { ⌜ lines ≤ 8 ⌝ }
-    ensures { λ r. ⌜ r ≡ filled 8 emptySendLine sendOf (rowsIn (now (values .entry)) start 1 lines) ⌝ }
+fn send_lines(values: &[u32], start: usize, lines: usize) -> [SendLine; SEND_LINES]
+    requires { ⌜ start + lines * width (tableAt sends) ≤ placesMost ⌝ }
+    requires { ⌜ lines ≤ sendLines ⌝ }
+    ensures { λ r. ⌜ r ≡ filled sendLines sendOf (rowsIn (now (values .entry)) start (width (tableAt sends)) lines) ⌝ }
 {
-    let none = no_send();
-    let mut out = [none; 8];
+    let none = send_line_of(values, values.len());
+    let mut out = [none; SEND_LINES];
     let mut i = 0;
     while i < lines {
-        out[i] = send_line_of(values, start + i * 1);
+        out[i] = send_line_of(values, start + i * column::SEND_COLUMNS);
         i += 1;
     }
     out
 }
 
-fn route_lines(values: &[u32], start: usize, lines: usize) -> [RouteLine; 64]
-    requires { ⌜ start + lines * 3 ≤ 100000 ⌝ }
-    requires { ⌜ lines ≤ 64 ⌝ }
-    ensures { λ r. ⌜ r ≡ filled 64 emptyRouteLine routeOf (rowsIn (now (values .entry)) start 3 lines) ⌝ }
+fn route_lines(values: &[u32], start: usize, lines: usize) -> [RouteLine; ROUTE_LINES]
+    requires { ⌜ start + lines * width (tableAt routes) ≤ placesMost ⌝ }
+    requires { ⌜ lines ≤ routeLines ⌝ }
+    ensures { λ r. ⌜ r ≡ filled routeLines routeOf (rowsIn (now (values .entry)) start (width (tableAt routes)) lines) ⌝ }
 {
-    let none = no_route();
-    let mut out = [none; 64];
+    let none = route_line_of(values, values.len());
+    let mut out = [none; ROUTE_LINES];
     let mut i = 0;
     while i < lines {
-        out[i] = route_line_of(values, start + i * 3);
+        out[i] = route_line_of(values, start + i * column::ROUTE_COLUMNS);
         i += 1;
     }
     out
 }
 
-fn sound_lines(values: &[u32], start: usize, lines: usize) -> [SoundLine; 64]
-    requires { ⌜ start + lines * 3 ≤ 100000 ⌝ }
-    requires { ⌜ lines ≤ 64 ⌝ }
-    ensures { λ r. ⌜ r ≡ filled 64 emptySoundLine soundOf (rowsIn (now (values .entry)) start 3 lines) ⌝ }
+fn sound_lines(values: &[u32], start: usize, lines: usize) -> [SoundLine; SOUND_LINES]
+    requires { ⌜ start + lines * width (tableAt sounds) ≤ placesMost ⌝ }
+    requires { ⌜ lines ≤ soundLines ⌝ }
+    ensures { λ r. ⌜ r ≡ filled soundLines soundOf (rowsIn (now (values .entry)) start (width (tableAt sounds)) lines) ⌝ }
 {
-    let none = no_sound();
-    let mut out = [none; 64];
+    let none = sound_line_of(values, values.len());
+    let mut out = [none; SOUND_LINES];
     let mut i = 0;
     while i < lines {
-        out[i] = sound_line_of(values, start + i * 3);
+        out[i] = sound_line_of(values, start + i * column::SOUND_COLUMNS);
         i += 1;
     }
     out
 }
 
-fn order_lines(values: &[u32], start: usize, lines: usize) -> [OrderLine; 128]
-    requires { ⌜ start + lines * 10 ≤ 100000 ⌝ }
-    requires { ⌜ lines ≤ 128 ⌝ }
-    ensures { λ r. ⌜ r ≡ filled 128 emptyOrderLine orderOf (rowsIn (now (values .entry)) start 10 lines) ⌝ }
+fn order_lines(values: &[u32], start: usize, lines: usize) -> [OrderLine; ORDER_LINES]
+    requires { ⌜ start + lines * width (tableAt orders) ≤ placesMost ⌝ }
+    requires { ⌜ lines ≤ orderLines ⌝ }
+    ensures { λ r. ⌜ r ≡ filled orderLines orderOf (rowsIn (now (values .entry)) start (width (tableAt orders)) lines) ⌝ }
 {
-    let none = no_order();
-    let mut out = [none; 128];
+    let none = order_line_of(values, values.len());
+    let mut out = [none; ORDER_LINES];
     let mut i = 0;
     while i < lines {
-        out[i] = order_line_of(values, start + i * 10);
+        out[i] = order_line_of(values, start + i * column::ORDER_COLUMNS);
         i += 1;
     }
     out
@@ -442,23 +396,18 @@ pub fn scene_of(values: &[u32], starts: &[usize; TABLES], counts: &[usize; TABLE
     }
 }
 
-// The scene of a refusal.
+// The scene of a refusal: no line at all, as tables that begin past the numbers' end have none.
 pub fn no_scene() -> Scene
-    ensures { λ r. ⌜ r ≡ emptyScene ⌝ }
+    ensures { λ r. ⌜ r ≡ sceneOf [] ⌝ }
 {
-    let head = no_head();
-    let clock = no_clock();
-    let track = no_track();
-    let send = no_send();
-    let route = no_route();
-    let sound = no_sound();
-    let order = no_order();
-    let clocks = [clock; 8];
-    let tracks = [track; 32];
-    let sends = [send; 8];
-    let routes = [route; 64];
-    let sounds = [sound; 64];
-    let orders = [order; 128];
+    let values = [0u32; 1];
+    let head = head_of(&values, 1);
+    let clocks = clock_lines(&values, 1, 0);
+    let tracks = track_lines(&values, 1, 0);
+    let sends = send_lines(&values, 1, 0);
+    let routes = route_lines(&values, 1, 0);
+    let sounds = sound_lines(&values, 1, 0);
+    let orders = order_lines(&values, 1, 0);
     Scene {
         head,
         clock_count: 0,

@@ -1,5 +1,6 @@
-pub mod Blocks
-pub mod Fields
-pub mod Layout
+pub mod Tails
+pub mod Written
 pub mod Numbers
-pub mod Small
+pub mod Fields
+pub mod Sections
+pub mod Layout

@@ -1,4 +1,4 @@
--- The file's grammar (01, "The scene file"; question 2): bytes to lines, lines to tables and fields, a field to a number.
+-- The file's grammar (docs/SCENE.md; question 2): bytes to lines, lines to tables and fields, a field to a number.
 use mathlib.Core.Bool.{Bool, true, false, cond, not, _&&_}
 use mathlib.Core.List.{List, [], _∷_, map}
 use Prim.Native.Nat.{ℕ, _+_, _-_, _*_}
@@ -35,20 +35,17 @@ unfoldable pub parted {ℓ} : {A : Type ℓ} → (A → Bool) → List A → Lis
 parted f [] = [] ∷ []
 parted f (x ∷ l) = cond (f x) ([] ∷ parted f l) (onto x (parted f l))
 
-abbrev pub isSpace : ℕ → Bool
-isSpace b = eqb b space
-
 abbrev pub isEmpty : List ℕ → Bool
 isEmpty [] = true
 isEmpty (x ∷ l) = false
 
 -- The fields of a line are parted by one space.
 unfoldable pub fieldsOf : List ℕ → List (List ℕ)
-fieldsOf line = parted isSpace line
+fieldsOf line = parted (λ b. eqb b space) line
 
 -- The tables of a file, as lines, are parted by one empty line.
-unfoldable pub blocksOf : List (List ℕ) → List (List (List ℕ))
-blocksOf lines = parted isEmpty lines
+unfoldable pub sectionsOf : List (List ℕ) → List (List (List ℕ))
+sectionsOf lines = parted isEmpty lines
 
 -- ---- numbers
 
@@ -92,12 +89,9 @@ unfoldable pub rowOf : List ℕ → List ℕ
 rowOf line = map valueOf (fieldsOf line)
 
 -- a table's names line, spelled exactly, and then its value lines
-unfoldable pub isBlock : List ℕ → ℕ → List (List ℕ) → Bool
-isBlock names w [] = false
-isBlock names w (line ∷ lines) = sameBytes line names && all (isRow w) lines
-
 unfoldable pub isTable : Table → List (List ℕ) → Bool
-isTable t block = isBlock (bytesOf (t .names)) (width t) block
+isTable t [] = false
+isTable t (line ∷ lines) = sameBytes line (bytesOf (t .names)) && all (isRow (width t)) lines
 
 unfoldable pub rowsOf : List (List ℕ) → List (List ℕ)
 rowsOf [] = []
@@ -112,4 +106,4 @@ areTables (t ∷ ts) (b ∷ bs) = isTable t b && areTables ts bs
 
 -- The numbers of a file: for each table its value lines, and for each line its numbers, all in the file's order.
 unfoldable pub tablesOf : List ℕ → List (List (List ℕ))
-tablesOf file = map rowsOf (blocksOf (linesOf file))
+tablesOf file = map rowsOf (sectionsOf (linesOf file))

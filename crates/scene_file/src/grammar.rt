@@ -1,10 +1,9 @@
 // Question 2: the file's lines, tables and numbers.
 ghost use mathlib.Core.Path.{_≡_};
-ghost use mathlib.Core.Bool.{false};
 ghost use Prim.Native.Nat.{_≤_, _+_};
 ghost use lib.ListN.{length};
-ghost use Rattle.scene_file.specs.Readings.{tailOf};
-ghost use Rattle.scene_file.specs.Readings.{positionOf, RowRead, RowsRead, BlockRead, LayoutRead};
+ghost use Rattle.scene_file.specs.Grammar.{lineFeed};
+ghost use Rattle.scene_file.specs.Readings.{tailOf, positionOf, RowRead, RowsRead, SectionRead, LayoutRead, noRows, noLayout};
 use crate::numbers::Number;
 use crate::numbers::find;
 use crate::numbers::number_of;
@@ -28,7 +27,6 @@ pub struct Layout {
     pub ok: bool,
     pub starts: [usize; TABLES],
     pub counts: [usize; TABLES],
-    pub total: usize,
 }
 
 // The numbers of one value line, written from `at` on. False where it is no line of that many
@@ -41,7 +39,7 @@ fn row(line: &[u8], width: usize, values: &mut [u32], at: usize) -> bool
     let mut from = 0;
     while from <= line.len() {
         let rest = &line[from..];
-        let n = find(rest, 32);
+        let n = find(rest, b' ');
         match number_of(&rest[..n]) {
             Number::Is(z) => {
                 values[at + j] = z;
@@ -57,7 +55,7 @@ fn row(line: &[u8], width: usize, values: &mut [u32], at: usize) -> bool
 }
 
 fn no_rows() -> TableRead
-    ensures { λ r. ⌜ r .ok ≡ false ⌝ }
+    ensures { λ r. ⌜ r ≡ noRows ⌝ }
 {
     TableRead {
         ok: false,
@@ -80,7 +78,7 @@ fn rows(file: &[u8], from: usize, width: usize, values: &mut [u32], at: usize) -
     let mut n = 0;
     while next < file.len() {
         let rest = &file[next..];
-        let e = find(rest, 10);
+        let e = find(rest, b'\n');
         if e == 0 {
             return TableRead {
                 ok: true,
@@ -117,13 +115,13 @@ fn table(
 ) -> TableRead
     requires { ⌜ length (now file) + 1 ≤ length (now values) + length (now values) ⌝ }
     requires { ⌜ at + at ≤ from ⌝ }
-    ensures { λ r. ⌜ BlockRead (now (file .entry)) from (now (names .entry)) width at (now (values .entry)) r (now (values .exit)) ⌝ }
+    ensures { λ r. ⌜ SectionRead (now (file .entry)) from (now (names .entry)) width at (now (values .entry)) r (now (values .exit)) ⌝ }
 {
     if file.len() <= from {
         return no_rows();
     }
     let rest = &file[from..];
-    let e = find(rest, 10);
+    let e = find(rest, b'\n');
     if e == 0 {
         return no_rows();
     }
@@ -136,16 +134,26 @@ fn table(
 // Where the names line that begins at a place ends.
 fn name_end(names: &[u8], name: usize) -> usize
     requires { ⌜ name ≤ length (now names) ⌝ }
-    ensures { λ r. ⌜ r ≡ name + positionOf 10 (tailOf (now (names .entry)) name) ⌝ }
+    ensures { λ r. ⌜ r ≡ name + positionOf lineFeed (tailOf (now (names .entry)) name) ⌝ }
 {
     let rest = &names[name..];
-    name + find(rest, 10)
+    name + find(rest, b'\n')
+}
+
+fn no_layout() -> Layout
+    ensures { λ r. ⌜ r ≡ noLayout ⌝ }
+{
+    Layout {
+        ok: false,
+        starts: [0usize; TABLES],
+        counts: [0usize; TABLES],
+    }
 }
 
 // The numbers of the whole file, one after the other, with each table's place and lines.
 pub fn read_tables(file: &[u8], values: &mut [u32]) -> Layout
     requires { ⌜ length (now file) + 1 ≤ length (now values) + length (now values) ⌝ }
-    ensures { λ r. ⌜ LayoutRead (now (file .entry)) r (now (values .exit)) ⌝ }
+    ensures { λ r. ⌜ LayoutRead (now (file .entry)) (now (values .entry)) r (now (values .exit)) ⌝ }
 {
     let names = names_text();
     let mut starts = [0usize; TABLES];
@@ -157,23 +165,13 @@ pub fn read_tables(file: &[u8], values: &mut [u32]) -> Layout
     let mut more = true;
     while t < TABLES {
         if !more {
-            return Layout {
-                ok: false,
-                starts,
-                counts,
-                total: 0,
-            };
+            return no_layout();
         }
         let end = name_end(&names, name);
         let rule = rule_of(t);
         let read = table(file, next, &names[name..end], rule.fields, &mut *values, at);
         if !read.ok {
-            return Layout {
-                ok: false,
-                starts,
-                counts,
-                total: 0,
-            };
+            return no_layout();
         }
         starts[t] = at;
         counts[t] = read.lines;
@@ -183,10 +181,12 @@ pub fn read_tables(file: &[u8], values: &mut [u32]) -> Layout
         more = read.more;
         t += 1;
     }
+    if more {
+        return no_layout();
+    }
     Layout {
-        ok: !more,
+        ok: true,
         starts,
         counts,
-        total: at,
     }
 }

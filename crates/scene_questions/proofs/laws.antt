@@ -1,5 +1,5 @@
 pub mod Places
 pub mod Samples
 pub mod Lengths
-pub mod Loops
 pub mod Tracks
+pub mod FirstNo

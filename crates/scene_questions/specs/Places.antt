@@ -1,5 +1,5 @@
 -- The file's numbers as the code holds them: one list, with the place where each table begins and its count of lines.
--- What the functions of src/ ask of them, in the words of Questions.antt; Laws/ has that it is the same.
+-- What the functions of src/ ask of them, in the words of Questions.antt; that it is the same is shown in `scene`.
 use mathlib.Core.Bool.{Bool, true, false, cond, _&&_}
 use mathlib.Core.List.{List, [], _∷_}
 use Prim.Native.Nat.{ℕ, zero, suc, _+_, _*_, _≤_, _<_}
@@ -8,9 +8,9 @@ use lib.ListN.{length, getD, take, drop}
 use Rattle.scene_tables.specs.declared.tables.Field.{Field}
 use Rattle.scene_tables.specs.declared.tables.LineRule.{LineRule}
 use Rattle.scene_tables.specs.Bytes.{every}
-use Rattle.scene_tables.specs.Tables.{Table, tables, noTable, noField, width}
+use Rattle.scene_tables.specs.Tables.{Table, tables, tableAt, noField, width}
 use Rattle.scene_tables.specs.InCode.{allFields}
-use Rattle.scene_questions.specs.Questions.{Tables, inRange, namesLine, lineInRange, lineNamesLine}
+use Rattle.scene_questions.specs.Questions.{Tables, Question, inRange, namesLine, lineInRange, lineNamesLine}
 
 -- a list cut in n lines of w numbers
 unfoldable pub cut : ℕ → ℕ → List ℕ → List (List ℕ)
@@ -38,7 +38,7 @@ countAt counts t = cond (ltb t (length tables)) (getD counts t 0) 0
 unfoldable pub countsFit : List ℕ → Bool
 countsFit counts =
     every (length tables)
-    (λ t. leb (getD tables t noTable .least) (getD counts t 0) && leb (getD counts t 0) (getD tables t noTable .most))
+    (λ t. leb (tableAt t .least) (getD counts t 0) && leb (getD counts t 0) (tableAt t .most))
 
 -- one field and one line, by question 5 or by question 4
 unfoldable pub fieldPasses : Bool → (ℕ → ℕ) → Field → ℕ → ℕ → Bool
@@ -64,8 +64,19 @@ tablePasses references lines blocks rule first w values start n =
 unfoldable pub tablesPass : Bool → (ℕ → ℕ) → ℕ → List ℕ → List ℕ → List ℕ → Bool
 tablesPass references lines blocks starts counts values =
     every (length tables)
-    (λ t. tablePasses references lines blocks (getD tables t noTable .rule) (length (allFields (take t tables))) (width (getD tables t noTable)) values (getD starts t 0) (getD counts t 0))
+    (λ t. tablePasses references lines blocks (tableAt t .rule) (length (allFields (take t tables))) (width (tableAt t)) values (getD starts t 0) (getD counts t 0))
 
 -- each table's numbers lie low enough for every place to be a usize
+abbrev pub placesMost : ℕ
+placesMost = 100000
+
 abbrev pub Low : List ℕ → List ℕ → Type 0
-Low starts counts = (t : ℕ) → t < length tables → getD starts t 0 + getD counts t 0 * width (getD tables t noTable) ≤ 100000
+Low starts counts = (t : ℕ) → t < length tables → getD starts t 0 + getD counts t 0 * width (tableAt t) ≤ placesMost
+
+-- samples that question 9 looks at in one run
+abbrev pub runMost : ℕ
+runMost = 4096
+
+-- the question at a place of a list, counted from 0; beyond the list one that says yes
+abbrev pub questionAt : List Question → ℕ → Question
+questionAt questions i = getD questions i (0, true)

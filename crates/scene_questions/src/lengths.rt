@@ -1,6 +1,7 @@
 // Question 1: the file's size.
 ghost use mathlib.Core.Path.{_≡_};
 ghost use Rattle.scene_questions.specs.Questions.{sizeOk};
+use limits::FILE_BYTES;
 
 pub fn size_ok(file: &[u8]) -> bool
     ensures { λ r. ⌜ r ≡ sizeOk (now (file .entry)) ⌝ }
@@ -8,8 +9,8 @@ pub fn size_ok(file: &[u8]) -> bool
     if file.len() == 0 {
         return false;
     }
-    if 16384 < file.len() {
+    if FILE_BYTES < file.len() {
         return false;
     }
-    file[file.len() - 1] == 10
+    file[file.len() - 1] == b'\n'
 }

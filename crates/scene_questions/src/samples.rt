@@ -5,15 +5,23 @@ ghost use Prim.Native.Nat.{_+_, _-_, _*_, _≤_, _<_};
 ghost use lib.ListN.{length, getD};
 ghost use lib.Ieee.{nan};
 ghost use Rattle.laws.specs.Count.{counted, ifPicked};
+ghost use Rattle.scene_tables.specs.Tables.{tableAt, width, sounds};
 ghost use Rattle.scene_questions.specs.Questions.{soundsFit, sampleOk, samplesOk};
-ghost use Rattle.scene_questions.specs.Places.{rowsIn};
+ghost use Rattle.scene_questions.specs.Places.{rowsIn, placesMost, runMost};
 use scene_file::at;
 use scene_file::natural_of;
+use scene_tables::column::SOUND_COLUMNS;
+use scene_tables::column::SOUND_COUNT;
+use scene_tables::column::SOUND_FIRST;
+
+// Samples that are asked after at once: few enough for a count to be a u32, many enough for a loop that
+// is vectorised.
+const RUN: usize = 4096;
 
 // Question 8.
 pub fn sounds_fit(values: &[u32], start: usize, lines: usize, samples: &[f32]) -> bool
-    requires { ⌜ start + lines * 3 ≤ 100000 ⌝ }
-    ensures { λ r. ⌜ r ≡ soundsFit (rowsIn (now (values .entry)) start 3 lines) (now (samples .entry)) ⌝ }
+    requires { ⌜ start + lines * width (tableAt sounds) ≤ placesMost ⌝ }
+    ensures { λ r. ⌜ r ≡ soundsFit (rowsIn (now (values .entry)) start (width (tableAt sounds)) lines) (now (samples .entry)) ⌝ }
 {
     if samples.len() % 2 != 0 {
         return false;
@@ -21,9 +29,9 @@ pub fn sounds_fit(values: &[u32], start: usize, lines: usize, samples: &[f32]) -
     let frames = samples.len() / 2;
     let mut i = 0;
     while i < lines {
-        let a = start + i * 3;
-        let first = natural_of(at(values, a, 1));
-        let count = natural_of(at(values, a, 2));
+        let a = start + i * SOUND_COLUMNS;
+        let first = natural_of(at(values, a, SOUND_FIRST));
+        let count = natural_of(at(values, a, SOUND_COUNT));
         if frames < first + count {
             return false;
         }
@@ -50,7 +58,7 @@ fn refusal(x: f32) -> u32
 // How many samples of a run are refused. They are counted, since a flag would keep the loop from
 // vectorising.
 fn refused(samples: &[f32], first: usize, to: usize) -> u32
-    requires { ⌜ (first ≤ to) × (to ≤ length (now samples)) × (to ≤ first + 4096) ⌝ }
+    requires { ⌜ (first ≤ to) × (to ≤ length (now samples)) × (to ≤ first + runMost) ⌝ }
     ensures { λ r. ⌜ r ≡ counted (λ j. not (sampleOk (getD (now (samples .entry)) (first + j) nan))) (to - first) ⌝ }
 {
     let mut count = 0;
@@ -65,12 +73,12 @@ fn refused(samples: &[f32], first: usize, to: usize) -> u32
 // Where the run that begins at `first` ends.
 fn run_end(first: usize, end: usize) -> usize
     requires { ⌜ first < end ⌝ }
-    ensures { λ r. ⌜ (first < r) × (r ≤ end) × (r ≤ first + 4096) ⌝ }
+    ensures { λ r. ⌜ (first < r) × (r ≤ end) × (r ≤ first + runMost) ⌝ }
 {
-    if end - first <= 4096 {
+    if end - first <= RUN {
         return end;
     }
-    first + 4096
+    first + RUN
 }
 
 // Question 9, a run at a time.

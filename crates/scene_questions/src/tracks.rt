@@ -1,15 +1,23 @@
 // Questions 6 and 7, of the numbers in their places.
 ghost use mathlib.Core.Path.{_≡_};
 ghost use Prim.Native.Nat.{_+_, _*_, _≤_, _<_};
+ghost use Rattle.limits.specs.Limits.{trackDepth};
+ghost use Rattle.scene_tables.specs.Tables.{tableAt, width, tracks, routes};
 ghost use Rattle.scene_questions.specs.Questions.{parentOf, withinDepth, depthsFit, samePair, newPair, routesFit};
-ghost use Rattle.scene_questions.specs.Places.{rowsIn};
+ghost use Rattle.scene_questions.specs.Places.{rowsIn, placesMost};
+use limits::TRACK_DEPTH;
 use scene_file::at;
 use scene_file::natural_of;
+use scene_tables::column::ROUTE_COLUMNS;
+use scene_tables::column::ROUTE_SEND;
+use scene_tables::column::ROUTE_TRACK;
+use scene_tables::column::TRACK_COLUMNS;
+use scene_tables::column::TRACK_PARENT;
 
 // The parent of a track line; lines count from 1, and 0 is the mixer.
 fn parent_of(values: &[u32], start: usize, lines: usize, line: usize) -> usize
-    requires { ⌜ start + lines * 2 ≤ 100000 ⌝ }
-    ensures { λ r. ⌜ r ≡ parentOf (rowsIn (now (values .entry)) start 2 lines) line ⌝ }
+    requires { ⌜ start + lines * width (tableAt tracks) ≤ placesMost ⌝ }
+    ensures { λ r. ⌜ r ≡ parentOf (rowsIn (now (values .entry)) start (width (tableAt tracks)) lines) line ⌝ }
 {
     if line == 0 {
         return 0;
@@ -17,16 +25,16 @@ fn parent_of(values: &[u32], start: usize, lines: usize, line: usize) -> usize
     if lines < line {
         return 0;
     }
-    natural_of(at(values, start + (line - 1) * 2, 0))
+    natural_of(at(values, start + (line - 1) * TRACK_COLUMNS, TRACK_PARENT))
 }
 
-// Whether a track's depth is at most 4.
+// Whether a track stands at most as deep as tracks may.
 fn within_depth(values: &[u32], start: usize, lines: usize, track: usize) -> bool
-    requires { ⌜ start + lines * 2 ≤ 100000 ⌝ }
-    ensures { λ r. ⌜ r ≡ withinDepth 4 (rowsIn (now (values .entry)) start 2 lines) track ⌝ }
+    requires { ⌜ start + lines * width (tableAt tracks) ≤ placesMost ⌝ }
+    ensures { λ r. ⌜ r ≡ withinDepth trackDepth (rowsIn (now (values .entry)) start (width (tableAt tracks)) lines) track ⌝ }
 {
     let mut line = track;
-    let mut d: usize = 4;
+    let mut d = TRACK_DEPTH;
     while 0 < d {
         if line == 0 {
             return true;
@@ -39,8 +47,8 @@ fn within_depth(values: &[u32], start: usize, lines: usize, track: usize) -> boo
 
 // Question 6.
 pub fn depths_fit(values: &[u32], start: usize, lines: usize) -> bool
-    requires { ⌜ start + lines * 2 ≤ 100000 ⌝ }
-    ensures { λ r. ⌜ r ≡ depthsFit (rowsIn (now (values .entry)) start 2 lines) ⌝ }
+    requires { ⌜ start + lines * width (tableAt tracks) ≤ placesMost ⌝ }
+    ensures { λ r. ⌜ r ≡ depthsFit (rowsIn (now (values .entry)) start (width (tableAt tracks)) lines) ⌝ }
 {
     let mut i = 0;
     while i < lines {
@@ -54,24 +62,24 @@ pub fn depths_fit(values: &[u32], start: usize, lines: usize) -> bool
 
 // Whether two lines route the same pair.
 fn same_pair(values: &[u32], start: usize, lines: usize, i: usize, k: usize) -> bool
-    requires { ⌜ start + lines * 3 ≤ 100000 ⌝ }
+    requires { ⌜ start + lines * width (tableAt routes) ≤ placesMost ⌝ }
     requires { ⌜ i < lines ⌝ }
     requires { ⌜ k < lines ⌝ }
-    ensures { λ r. ⌜ r ≡ samePair (rowsIn (now (values .entry)) start 3 lines) i k ⌝ }
+    ensures { λ r. ⌜ r ≡ samePair (rowsIn (now (values .entry)) start (width (tableAt routes)) lines) i k ⌝ }
 {
-    let a = start + i * 3;
-    let b = start + k * 3;
-    if at(values, a, 0) != at(values, b, 0) {
+    let a = start + i * ROUTE_COLUMNS;
+    let b = start + k * ROUTE_COLUMNS;
+    if at(values, a, ROUTE_TRACK) != at(values, b, ROUTE_TRACK) {
         return false;
     }
-    at(values, a, 1) == at(values, b, 1)
+    at(values, a, ROUTE_SEND) == at(values, b, ROUTE_SEND)
 }
 
 // Whether no line before line i routes its pair.
 fn new_pair(values: &[u32], start: usize, lines: usize, i: usize) -> bool
-    requires { ⌜ start + lines * 3 ≤ 100000 ⌝ }
+    requires { ⌜ start + lines * width (tableAt routes) ≤ placesMost ⌝ }
     requires { ⌜ i < lines ⌝ }
-    ensures { λ r. ⌜ r ≡ newPair (rowsIn (now (values .entry)) start 3 lines) i ⌝ }
+    ensures { λ r. ⌜ r ≡ newPair (rowsIn (now (values .entry)) start (width (tableAt routes)) lines) i ⌝ }
 {
     let mut k = 0;
     while k < i {
@@ -85,8 +93,8 @@ fn new_pair(values: &[u32], start: usize, lines: usize, i: usize) -> bool
 
 // Question 7.
 pub fn routes_fit(values: &[u32], start: usize, lines: usize) -> bool
-    requires { ⌜ start + lines * 3 ≤ 100000 ⌝ }
-    ensures { λ r. ⌜ r ≡ routesFit (rowsIn (now (values .entry)) start 3 lines) ⌝ }
+    requires { ⌜ start + lines * width (tableAt routes) ≤ placesMost ⌝ }
+    ensures { λ r. ⌜ r ≡ routesFit (rowsIn (now (values .entry)) start (width (tableAt routes)) lines) ⌝ }
 {
     let mut i = 0;
     while i < lines {

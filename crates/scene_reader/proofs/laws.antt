@@ -1,3 +1,4 @@
+pub mod Read
+pub mod Also
 pub mod Answer
 pub mod Length
-pub mod Read

@@ -3,5 +3,5 @@
 mod answer;
 
 pub use answer::Answer;
+pub use answer::read_input;
 pub use answer::read_scene;
-pub use answer::read_unmeasured;

@@ -5,18 +5,24 @@ ghost use lib.ListN.{length, getD, drop};
 ghost use Rattle.clock.specs.ClockSpeed.{allowedSpeed};
 ghost use Rattle.scene_tables.specs.Tables.{tables};
 ghost use Rattle.scene_tables.specs.InCode.{allFields};
-ghost use Rattle.scene_questions.specs.Questions.{inRange, namesLine, speedOf, volumeFits, partFits, millisFit, powerFits, orderFits, targetTable, indexNamesLine};
-ghost use Rattle.scene_questions.specs.Places.{countAt, countsFit, fieldPasses, linePasses, fieldsPass, tablePasses, tablesPass, Low};
+ghost use Rattle.scene_questions.specs.Questions.{inRange, namesLine, speedOf, volumeFits, partFits, millisFit, powerFits, orderFits, indexTable, indexNamesLine};
+ghost use Rattle.scene_questions.specs.Places.{countAt, countsFit, fieldPasses, linePasses, fieldsPass, tablePasses, tablesPass, placesMost, Low};
 use clock::ClockSpeed;
 use scene_file::at;
 use scene_file::natural_of;
 use scene_tables::Field;
+use scene_tables::KIND_MAIN_VOLUME;
+use scene_tables::KIND_PAUSE;
+use scene_tables::KIND_ROUTE_VOLUME;
+use scene_tables::KIND_SEND_VOLUME;
 use scene_tables::LineRule;
+use scene_tables::ONE;
 use scene_tables::ROUTES;
 use scene_tables::SENDS;
 use scene_tables::TABLES;
 use scene_tables::TRACKS;
 use scene_tables::ZERO;
+use scene_tables::column;
 use scene_tables::field_of;
 use scene_tables::rule_of;
 
@@ -58,7 +64,7 @@ fn in_range(f: Field, z: u32) -> bool
         }
         Field::Line(_, _) => true,
         Field::Earlier => true,
-        Field::Target => true,
+        Field::Index => true,
     }
 }
 
@@ -80,7 +86,7 @@ fn names_line(f: Field, own: usize, z: u32, counts: &[usize; TABLES]) -> bool
             }
             natural_of(z) <= own
         }
-        Field::Target => true,
+        Field::Index => true,
     }
 }
 
@@ -131,7 +137,7 @@ pub fn speed_of(unit: u32, speed: u32) -> ClockSpeed
     if unit == ZERO {
         return ClockSpeed::SecondsPerTick(number);
     }
-    if unit == ZERO + 1 {
+    if unit == ONE {
         return ClockSpeed::TicksPerSecond(number);
     }
     ClockSpeed::TicksPerMinute(number)
@@ -150,7 +156,7 @@ fn speed_fits(unit: u32, speed: u32) -> bool
 fn volume_fits(kind: u32, volume: u32) -> bool
     ensures { λ r. ⌜ r ≡ volumeFits kind volume ⌝ }
 {
-    if ZERO + 4 <= kind {
+    if KIND_PAUSE <= kind {
         return volume == ZERO;
     }
     true
@@ -168,14 +174,14 @@ fn part_fits(clock: u32, part: u32) -> bool
 fn millis_fit(kind: u32, clock: u32, when: u32, millis: u32) -> bool
     ensures { λ r. ⌜ r ≡ millisFit kind clock when millis ⌝ }
 {
-    if ZERO + 4 < kind {
+    if KIND_PAUSE < kind {
         return true;
     }
     if clock != ZERO {
-        return ZERO + 1 <= millis;
+        return ONE <= millis;
     }
     if ZERO < when {
-        return ZERO + 1 <= millis;
+        return ONE <= millis;
     }
     true
 }
@@ -186,37 +192,45 @@ fn power_fits(easing: u32, power: u32) -> bool
     if easing == ZERO {
         return power == ZERO;
     }
-    ZERO + 1 <= power
+    ONE <= power
 }
 
 // The order at `a`, by question 4.
 fn order_fits(values: &[u32], a: usize, blocks: u32) -> bool
     ensures { λ r. ⌜ r ≡ orderFits blocks (drop a (now (values .entry))) ⌝ }
 {
-    if blocks <= at(values, a, 0) {
+    if blocks <= at(values, a, column::ORDER_BLOCK) {
         return false;
     }
-    let kind = at(values, a, 1);
-    if !volume_fits(kind, at(values, a, 3)) {
+    let kind = at(values, a, column::ORDER_KIND);
+    if !volume_fits(kind, at(values, a, column::ORDER_VOLUME)) {
         return false;
     }
-    let clock = at(values, a, 4);
-    if !part_fits(clock, at(values, a, 6)) {
+    let clock = at(values, a, column::ORDER_CLOCK);
+    if !part_fits(clock, at(values, a, column::ORDER_PART)) {
         return false;
     }
-    if !millis_fit(kind, clock, at(values, a, 5), at(values, a, 7)) {
+    if !millis_fit(
+        kind,
+        clock,
+        at(values, a, column::ORDER_WHEN),
+        at(values, a, column::ORDER_MILLIS),
+    ) {
         return false;
     }
-    power_fits(at(values, a, 8), at(values, a, 9))
+    power_fits(
+        at(values, a, column::ORDER_EASING),
+        at(values, a, column::ORDER_POWER),
+    )
 }
 
-fn target_table(kind: u32) -> usize
-    ensures { λ r. ⌜ r ≡ targetTable kind ⌝ }
+fn index_table(kind: u32) -> usize
+    ensures { λ r. ⌜ r ≡ indexTable kind ⌝ }
 {
-    if kind == ZERO + 2 {
+    if kind == KIND_SEND_VOLUME {
         return SENDS;
     }
-    if kind == ZERO + 3 {
+    if kind == KIND_ROUTE_VOLUME {
         return ROUTES;
     }
     TRACKS
@@ -225,13 +239,13 @@ fn target_table(kind: u32) -> usize
 fn index_names_line(kind: u32, index: u32, counts: &[usize; TABLES]) -> bool
     ensures { λ r. ⌜ r ≡ indexNamesLine (countAt (now (counts .entry))) kind index ⌝ }
 {
-    if kind == ZERO {
+    if kind == KIND_MAIN_VOLUME {
         return index == ZERO;
     }
-    if index < ZERO + 1 {
+    if index < ONE {
         return false;
     }
-    natural_of(index) <= count_of(counts, target_table(kind))
+    natural_of(index) <= count_of(counts, index_table(kind))
 }
 
 // The line at `a` as a whole, by question 5, or by question 4.
@@ -251,11 +265,18 @@ fn line_passes(
             if references {
                 return true;
             }
-            speed_fits(at(values, a, 0), at(values, a, 1))
+            speed_fits(
+                at(values, a, column::CLOCK_UNIT),
+                at(values, a, column::CLOCK_SPEED),
+            )
         }
         LineRule::Order => {
             if references {
-                return index_names_line(at(values, a, 1), at(values, a, 2), counts);
+                return index_names_line(
+                    at(values, a, column::ORDER_KIND),
+                    at(values, a, column::ORDER_INDEX),
+                    counts,
+                );
             }
             order_fits(values, a, blocks)
         }
@@ -275,7 +296,7 @@ fn table_passes(
     counts: &[usize; TABLES],
 ) -> bool
     requires { ⌜ first + width ≤ length (allFields tables) ⌝ }
-    requires { ⌜ start + lines * width ≤ 100000 ⌝ }
+    requires { ⌜ start + lines * width ≤ placesMost ⌝ }
     ensures { λ r. ⌜ r ≡ tablePasses references (countAt (now (counts .entry))) blocks rule first width (now (values .entry)) start lines ⌝ }
 {
     let mut i = 0;

@@ -1,11 +1,13 @@
--- THE LIST OF TABLES of document 01, "The scene file": for each table its names line, how many value lines it may have, and
--- each field's rule. A new table or field is a row here and in src/tables.rt, which has the same list for the code.
+-- THE LIST OF TABLES of a scene file: for each table its names line, how many value lines it may have, and each field's rule.
+-- A new table or field is a row here and in src/tables.rt, which has the same list for the code; its column gets a name below
+-- and in src/column.rt.
 use mathlib.Core.List.{List, [], _∷_}
 use Prim.Native.Nat.{ℕ, _+_, _-_}
 use Prim.Native.String.{String}
-use lib.ListN.{length}
+use lib.ListN.{length, getD}
+use Rattle.limits.specs.Limits.{clockLines, trackLines, sendLines, routeLines, soundLines, orderLines}
 use Rattle.scene_tables.specs.declared.tables.Field.{Field}
-use Rattle.scene_tables.specs.declared.tables.Field.the-variants.{Number, Line, Earlier, Target}
+use Rattle.scene_tables.specs.declared.tables.Field.the-variants.{Number, Line, Earlier, Index}
 use Rattle.scene_tables.specs.declared.tables.LineRule.{LineRule}
 use Rattle.scene_tables.specs.declared.tables.LineRule.the-variants.{Plain, Speed, Order}
 
@@ -22,8 +24,8 @@ abbrev pub natural : ℕ → ℕ
 natural z = z - 2147483648
 
 -- The rule of a field: `Number a b` is a number from a to b, both included; `Line k a` is a line number of table k, from a on
--- (0 where 01 lets 0 stand for something else); `Earlier` is 0 or the number of an earlier line of the same table;
--- `Target` is an order's index, whose table goes by the order's kind.
+-- (0 where 0 stands for something else, as the main track does); `Earlier` is 0 or the number of an earlier line of the same table;
+-- `Index` is an order's index, whose table goes by the order's kind.
 -- The rule of a line as a whole: `Speed` and `Order` have one of their own, stated in Questions.antt.
 pub record Table : Type 0 where
   pub names : String
@@ -36,7 +38,7 @@ abbrev pub table : String → ℕ → ℕ → LineRule → List Field → Table
 table names least most rule fields = record { names = names; least = least; most = most; fields = fields; rule = rule }
 
 -- how many fields a table has
-unfoldable pub width : Table → ℕ
+abbrev pub width : Table → ℕ
 width t = length (t .fields)
 
 -- which table is which
@@ -72,15 +74,15 @@ abbrev pub tables : List Table
 tables =
     table "rate channels buffer block blocks volume" 1 1 Plain
     (within 8000 192000 ∷ within 1 8 ∷ within 1 256 ∷ within 1 512 ∷ within 1 1024 ∷ volume ∷ [])
-    ∷ table "unit speed ticking" 0 8 Speed (within 0 2 ∷ within 1 60000000 ∷ within 0 1 ∷ [])
-    ∷ table "parent volume" 0 32 Plain (Earlier ∷ volume ∷ [])
-    ∷ table "volume" 0 8 Plain (volume ∷ [])
-    ∷ table "track send volume" 0 64 Plain (Line tracks (raised 1) ∷ Line sends (raised 1) ∷ volume ∷ [])
-    ∷ table "track first count" 0 64 Plain (Line tracks (raised 0) ∷ within 0 2147483647 ∷ within 0 2147483647 ∷ [])
-    ∷ table "block kind index volume clock when part millis easing power" 0 128 Order
+    ∷ table "unit speed ticking" 0 clockLines Speed (within 0 2 ∷ within 1 60000000 ∷ within 0 1 ∷ [])
+    ∷ table "parent volume" 0 trackLines Plain (Earlier ∷ volume ∷ [])
+    ∷ table "volume" 0 sendLines Plain (volume ∷ [])
+    ∷ table "track send volume" 0 routeLines Plain (Line tracks (raised 1) ∷ Line sends (raised 1) ∷ volume ∷ [])
+    ∷ table "track first count" 0 soundLines Plain (Line tracks (raised 0) ∷ within 0 2147483647 ∷ within 0 2147483647 ∷ [])
+    ∷ table "block kind index volume clock when part millis easing power" 0 orderLines Order
     (within 0 1023
     ∷ within 0 5
-    ∷ Target
+    ∷ Index
     ∷ volume
     ∷ Line clocks (raised 0)
     ∷ within 0 3600000
@@ -97,3 +99,32 @@ noTable = table "" 0 0 Plain []
 
 abbrev pub noField : Field
 noField = Number 0 0
+
+abbrev pub tableAt : ℕ → Table
+tableAt t = getD tables t noTable
+
+-- Which column of a table is which, counted from 0.
+abbrev pub headColumn : record { rate : ℕ; channels : ℕ; buffer : ℕ; block : ℕ; blocks : ℕ; volume : ℕ }
+headColumn = record { rate = 0; channels = 1; buffer = 2; block = 3; blocks = 4; volume = 5 }
+
+abbrev pub clockColumn : record { unit : ℕ; speed : ℕ; ticking : ℕ }
+clockColumn = record { unit = 0; speed = 1; ticking = 2 }
+
+abbrev pub trackColumn : record { parent : ℕ; volume : ℕ }
+trackColumn = record { parent = 0; volume = 1 }
+
+abbrev pub sendColumn : record { volume : ℕ }
+sendColumn = record { volume = 0 }
+
+abbrev pub routeColumn : record { track : ℕ; send : ℕ; volume : ℕ }
+routeColumn = record { track = 0; send = 1; volume = 2 }
+
+abbrev pub soundColumn : record { track : ℕ; first : ℕ; count : ℕ }
+soundColumn = record { track = 0; first = 1; count = 2 }
+
+abbrev pub orderColumn : record { block : ℕ; kind : ℕ; index : ℕ; volume : ℕ; clock : ℕ; when : ℕ; part : ℕ; millis : ℕ; easing : ℕ; power : ℕ }
+orderColumn = record { block = 0; kind = 1; index = 2; volume = 3; clock = 4; when = 5; part = 6; millis = 7; easing = 8; power = 9 }
+
+-- the kinds of orders, raised like every number of a table
+abbrev pub orderKind : record { mainVolume : ℕ; trackVolume : ℕ; sendVolume : ℕ; routeVolume : ℕ; pause : ℕ; resume : ℕ }
+orderKind = record { mainVolume = raised 0; trackVolume = raised 1; sendVolume = raised 2; routeVolume = raised 3; pause = raised 4; resume = raised 5 }

@@ -1,11 +1,18 @@
-// The list of tables, as document 01 has it. A new table or field is a row here and in
-// specs/Tables.antt; no other file says how many tables there are, or how many fields.
+// The list of tables. A new table or field is a row here and in specs/Tables.antt, and a name in
+// column.rt; no other file says how many tables there are, or how many fields.
 
 ghost use mathlib.Core.Path.{_≡_};
 ghost use Prim.Native.Nat.{_<_};
 ghost use lib.ListN.{length, getD};
-ghost use Rattle.scene_tables.specs.Tables.{tables, noTable, noField};
+ghost use Rattle.scene_tables.specs.Tables.{tables, tableAt, noField};
 ghost use Rattle.scene_tables.specs.InCode.{namesText, ruleOf, allFields};
+use crate::column;
+use limits::CLOCK_LINES;
+use limits::ORDER_LINES;
+use limits::ROUTE_LINES;
+use limits::SEND_LINES;
+use limits::SOUND_LINES;
+use limits::TRACK_LINES;
 
 // The rule of one field. Numbers are raised by 2^31.
 pub enum Field {
@@ -16,7 +23,7 @@ pub enum Field {
     // 0 or an earlier line of the same table.
     Earlier,
     // An order's index.
-    Target,
+    Index,
 }
 
 // The rule of a line as a whole.
@@ -34,8 +41,12 @@ pub struct TableRule {
     pub rule: LineRule,
 }
 
-// What 0 is when it is raised.
+// What 0, 1 and 2 are when they are raised.
 pub const ZERO: u32 = 2147483648;
+
+pub const ONE: u32 = ZERO + 1;
+
+pub const TWO: u32 = ZERO + 2;
 
 // Thousandths of a decibel.
 pub const QUIETEST: u32 = ZERO - 96000;
@@ -58,57 +69,80 @@ pub const SOUNDS: usize = 5;
 
 pub const ORDERS: usize = 6;
 
+// The kinds of orders, raised.
+pub const KIND_MAIN_VOLUME: u32 = ZERO;
+
+pub const KIND_TRACK_VOLUME: u32 = ZERO + 1;
+
+pub const KIND_SEND_VOLUME: u32 = ZERO + 2;
+
+pub const KIND_ROUTE_VOLUME: u32 = ZERO + 3;
+
+pub const KIND_PAUSE: u32 = ZERO + 4;
+
+pub const KIND_RESUME: u32 = ZERO + 5;
+
 // The names lines one after the other, each with its line feed.
-const NAMES: [u8; 177] =
+pub const NAMES_BYTES: usize = 177;
+
+const NAMES: [u8; NAMES_BYTES] =
     *b"rate channels buffer block blocks volume\nunit speed ticking\nparent volume\nvolume\ntrack send volume\ntrack first count\nblock kind index volume clock when part millis easing power\n";
 
 const RULES: [TableRule; TABLES] = [
     TableRule {
         least: 1,
         most: 1,
-        fields: 6,
+        fields: column::HEAD_COLUMNS,
         rule: LineRule::Plain,
     },
     TableRule {
         least: 0,
-        most: 8,
-        fields: 3,
+        most: CLOCK_LINES,
+        fields: column::CLOCK_COLUMNS,
         rule: LineRule::Speed,
     },
     TableRule {
         least: 0,
-        most: 32,
-        fields: 2,
+        most: TRACK_LINES,
+        fields: column::TRACK_COLUMNS,
         rule: LineRule::Plain,
     },
     TableRule {
         least: 0,
-        most: 8,
-        fields: 1,
+        most: SEND_LINES,
+        fields: column::SEND_COLUMNS,
         rule: LineRule::Plain,
     },
     TableRule {
         least: 0,
-        most: 64,
-        fields: 3,
+        most: ROUTE_LINES,
+        fields: column::ROUTE_COLUMNS,
         rule: LineRule::Plain,
     },
     TableRule {
         least: 0,
-        most: 64,
-        fields: 3,
+        most: SOUND_LINES,
+        fields: column::SOUND_COLUMNS,
         rule: LineRule::Plain,
     },
     TableRule {
         least: 0,
-        most: 128,
-        fields: 10,
+        most: ORDER_LINES,
+        fields: column::ORDER_COLUMNS,
         rule: LineRule::Order,
     },
 ];
 
+pub const FIELD_COUNT: usize = column::HEAD_COLUMNS
+    + column::CLOCK_COLUMNS
+    + column::TRACK_COLUMNS
+    + column::SEND_COLUMNS
+    + column::ROUTE_COLUMNS
+    + column::SOUND_COLUMNS
+    + column::ORDER_COLUMNS;
+
 // The fields of all tables, one after the other.
-const FIELDS: [Field; 28] = [
+const FIELDS: [Field; FIELD_COUNT] = [
     // rate channels buffer block blocks volume
     Field::Number(ZERO + 8000, ZERO + 192000),
     Field::Number(ZERO + 1, ZERO + 8),
@@ -135,8 +169,8 @@ const FIELDS: [Field; 28] = [
     Field::Number(ZERO, ZERO + 2147483647),
     // block kind index volume clock when part millis easing power
     Field::Number(ZERO, ZERO + 1023),
-    Field::Number(ZERO, ZERO + 5),
-    Field::Target,
+    Field::Number(KIND_MAIN_VOLUME, KIND_RESUME),
+    Field::Index,
     Field::Number(QUIETEST, LOUDEST),
     Field::Line(CLOCKS, ZERO),
     Field::Number(ZERO, ZERO + 3600000),
@@ -146,7 +180,7 @@ const FIELDS: [Field; 28] = [
     Field::Number(ZERO, ZERO + 8),
 ];
 
-pub fn names_text() -> [u8; 177]
+pub fn names_text() -> [u8; NAMES_BYTES]
     ensures { λ r. ⌜ r ≡ namesText tables ⌝ }
 {
     NAMES
@@ -154,7 +188,7 @@ pub fn names_text() -> [u8; 177]
 
 pub fn rule_of(t: usize) -> TableRule
     requires { ⌜ t < length tables ⌝ }
-    ensures { λ r. ⌜ r ≡ ruleOf (getD tables t noTable) ⌝ }
+    ensures { λ r. ⌜ r ≡ ruleOf (tableAt t) ⌝ }
 {
     RULES[t]
 }

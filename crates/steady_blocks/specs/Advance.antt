@@ -5,8 +5,9 @@ use mathlib.Core.List.{List}
 use Prim.Native.Nat.{ℕ, _+_, _-_, _^_, _≤_, _<_}
 use lib.Dec.{eqb, ltb}
 use lib.ListN.{length, getD, set}
+use Rattle.limits.specs.Limits.{trackPlaces, soundLines}
 use Rattle.laws.specs.Loop.{upto}
-use Rattle.chunk.specs.Flat.{advancingFrom, soundTracksFrom, soundStartsFrom, soundLeftsFrom, framesPlace, soundCountPlace}
+use Rattle.chunk.specs.Flat.{advancingFrom, soundTracksFrom, soundStartsFrom, soundLeftsFrom, framesPlace, soundCountPlace, placesSize}
 
 -- the tables of a chunk of n frames
 unfoldable pub framed : ℕ → List ℕ → List ℕ
@@ -37,11 +38,11 @@ advanced n places = upto (soundOn n) (getD places soundCountPlace 0) places
 
 -- every sound's track is a line
 abbrev pub TracksThere : List ℕ → ℕ → Type 0
-TracksThere places count = (k : ℕ) → k < count → getD places (soundTracksFrom + k) 0 ≤ 32
+TracksThere places count = (k : ℕ) → k < count → getD places (soundTracksFrom + k) 0 ≤ trackPlaces
 
 pub record CanAdvance (places : List ℕ) : Type 0 where
-  pub long : length places ≡ 389
-  pub few : getD places soundCountPlace 0 ≤ 64
+  pub long : length places ≡ placesSize
+  pub few : getD places soundCountPlace 0 ≤ soundLines
   pub tracks : TracksThere places (getD places soundCountPlace 0)
   -- the program can count a sound's frames
   pub fits : (k : ℕ) → k < getD places soundCountPlace 0 → getD places (soundStartsFrom + k) 0 + getD places (soundLeftsFrom + k) 0 < 2 ^ 64

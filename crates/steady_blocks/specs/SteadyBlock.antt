@@ -6,6 +6,7 @@ use Prim.Native.Nat.{ℕ, _+_, _-_, _*_, _^_, _≤_, _<_}
 use lib.Dec.{ltb}
 use lib.ListN.{length, getD}
 use lib.Ieee.{Float}
+use Rattle.limits.specs.Limits.{chunkFramesMost, blockFramesMost, channelsMost, rateMost}
 use Rattle.laws.specs.Loop.{upto, changed}
 use Rattle.laws.specs.Pieces.{pieces}
 use Rattle.clock.specs.declared.when_to_start.Clocks.{Clocks}
@@ -22,7 +23,7 @@ use Rattle.track.specs.Mix.{mixedFrame}
 use Rattle.mixer.specs.declared.mixer.Mixer.{Mixer}
 use Rattle.mixer.specs.MixerOk.{MixerOk}
 use Rattle.renderer.specs.Renderer.{chunkCount, chunkFrames, channelsOf, chunksDone}
-use Rattle.chunk.specs.Flat.{soundLeftsFrom, soundCountPlace, chunkFrom}
+use Rattle.chunk.specs.Flat.{soundLeftsFrom, soundCountPlace, placesSize, chunkFrom}
 use Rattle.steady_blocks.specs.Advance.{framed, advanced, TracksThere}
 use Rattle.steady_mixer.specs.Steady.{mixerSteady}
 
@@ -40,20 +41,20 @@ unfoldable pub mixedSamples : ℕ → ℕ → Chunk → List Float → List Floa
 mixedSamples channels n c samples = pieces (λ i. channelsOf channels (clamped (mixedFrame c samples i))) n
 
 -- chunk k of a block, from the tables before it
-unfoldable pub stillChunk : Head → List Float → List Float → ℕ → List ℕ → List Float
-stillChunk h values samples k places = let n = chunkFrames h k in mixedSamples (h .channels) n (chunkFrom (framed n places) values) samples
+unfoldable pub stillChunk : Head → List Float → List Float → List Float → ℕ → List ℕ → List Float
+stillChunk h levels amplitudes samples k places = let n = chunkFrames h k in mixedSamples (h .channels) n (chunkFrom (framed n places) levels amplitudes) samples
 
-unfoldable pub stillSamples : Head → List ℕ → List Float → List Float → List Float
-stillSamples h places values samples = pieces (λ k. stillChunk h values samples k (stillPlaces h k places)) (chunkCount h)
+unfoldable pub stillSamples : Head → List ℕ → List Float → List Float → List Float → List Float
+stillSamples h places levels amplitudes samples = pieces (λ k. stillChunk h levels amplitudes samples k (stillPlaces h k places)) (chunkCount h)
 
 -- what the code of a block asks: every chunk can be mixed, and clocks can move
-pub record StillOk (h : Head) (places : List ℕ) (values samples : List Float) (clocks : Clocks) : Type 0 where
-  pub long : length places ≡ 389
-  pub rate : h .rate ≤ 192000
-  pub channels : h .channels ≤ 8
-  pub buffer : (1 ≤ h .buffer) × (h .buffer ≤ 256)
-  pub block : h .block ≤ 512
-  pub chunks : (k : ℕ) → k < chunkCount h → ChunkOk (chunkFrom (framed (chunkFrames h k) (stillPlaces h k places)) values) samples
+pub record StillOk (h : Head) (places : List ℕ) (levels amplitudes samples : List Float) (clocks : Clocks) : Type 0 where
+  pub long : length places ≡ placesSize
+  pub rate : h .rate ≤ rateMost
+  pub channels : h .channels ≤ channelsMost
+  pub buffer : (1 ≤ h .buffer) × (h .buffer ≤ chunkFramesMost)
+  pub block : h .block ≤ blockFramesMost
+  pub chunks : (k : ℕ) → k < chunkCount h → ChunkOk (chunkFrom (framed (chunkFrames h k) (stillPlaces h k places)) levels amplitudes) samples
   pub tracks : (k : ℕ) → k < chunkCount h → TracksThere (stillPlaces h k places) (getD (stillPlaces h k places) soundCountPlace 0)
   pub moves : (k : ℕ) → k < chunkCount h → CanMoveAll (stillClocks h k clocks) (chunkTime (h .rate) (chunkFrames h k))
 

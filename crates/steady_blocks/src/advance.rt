@@ -2,26 +2,20 @@
 ghost use mathlib.Core.Path.{_≡_};
 ghost use Prim.Native.Nat.{_+_, _≤_, _<_};
 ghost use lib.ListN.{getD};
+ghost use Rattle.limits.specs.Limits.{trackPlaces, soundLines};
+ghost use Rattle.chunk.specs.Flat.{soundTracksFrom};
 ghost use Rattle.steady_blocks.specs.Advance.{moves, framesOf, advanced, CanAdvance};
-
-// Where a column of the tables begins.
-const ADVANCING: usize = 32;
-
-const SOUND_TRACKS: usize = 192;
-
-const SOUND_STARTS: usize = 256;
-
-pub const SOUND_LEFTS: usize = 320;
-
-// Where a number of the tables stands.
-pub const FRAMES: usize = 384;
-
-const SOUND_COUNT: usize = 388;
+use chunk::ADVANCING;
+use chunk::Places;
+use chunk::SOUND_COUNT;
+use chunk::SOUND_LEFTS;
+use chunk::SOUND_STARTS;
+use chunk::SOUND_TRACKS;
 
 // Whether the sound on line k moves: it is the main track's, or its track advances.
-fn moves(places: &[usize; 389], k: usize) -> bool
-    requires { ⌜ k < 64 ⌝ }
-    requires { ⌜ getD (now places) (192 + k) 0 ≤ 32 ⌝ }
+fn moves(places: &Places, k: usize) -> bool
+    requires { ⌜ k < soundLines ⌝ }
+    requires { ⌜ getD (now places) (soundTracksFrom + k) 0 ≤ trackPlaces ⌝ }
     ensures { λ r. ⌜ r ≡ moves (now (places .entry)) k ⌝ }
 {
     let track = places[SOUND_TRACKS + k];
@@ -32,9 +26,9 @@ fn moves(places: &[usize; 389], k: usize) -> bool
 }
 
 // How many of a chunk's frames it plays: no more than it has left.
-fn frames_of(places: &[usize; 389], k: usize, frames: usize) -> usize
-    requires { ⌜ k < 64 ⌝ }
-    requires { ⌜ getD (now places) (192 + k) 0 ≤ 32 ⌝ }
+fn frames_of(places: &Places, k: usize, frames: usize) -> usize
+    requires { ⌜ k < soundLines ⌝ }
+    requires { ⌜ getD (now places) (soundTracksFrom + k) 0 ≤ trackPlaces ⌝ }
     ensures { λ r. ⌜ r ≡ framesOf frames (now (places .entry)) k ⌝ }
 {
     if moves(places, k) {
@@ -48,7 +42,7 @@ fn frames_of(places: &[usize; 389], k: usize, frames: usize) -> usize
 }
 
 // After a chunk.
-pub fn advance(places: &mut [usize; 389], frames: usize)
+pub fn advance(places: &mut Places, frames: usize)
     requires { ⌜ CanAdvance (now places) ⌝ }
     ensures { λ _. ⌜ now (places .exit) ≡ advanced frames (now (places .entry)) ⌝ }
 {

@@ -3,94 +3,117 @@ ghost use mathlib.Core.Path.{_≡_};
 ghost use mathlib.Core.Bool.{cond};
 ghost use Prim.Native.Nat.{_+_, _-_, _*_, _≤_, _<_};
 ghost use lib.ListN.{length, getD};
+ghost use Rattle.limits.specs.Limits.{channelsMost};
 ghost use Rattle.gain_table.specs.GainTable.{IsGainTable};
-ghost use Rattle.frame.specs.Frame.{withFrames};
-ghost use Rattle.chunk.specs.Chunk.{ChunkOk, IsParts};
+ghost use Rattle.frame.specs.Layout.{scratch, withFrames};
+ghost use Rattle.chunk.specs.Chunk.{ChunkOk, partsOf};
 ghost use Rattle.track.specs.Mix.{mixedSet};
 ghost use Rattle.renderer.specs.Renderer.{chunkCount, chunkFrames};
-ghost use Rattle.chunk.specs.Flat.{chunkFrom};
+ghost use Rattle.chunk.specs.Flat.{placesSize, soundCountPlace, chunkFrom};
 ghost use Rattle.steady_blocks.specs.Advance.{framed, advanced, TracksThere};
 ghost use Rattle.steady_blocks.specs.SteadyBlock.{stillPlaces, stillClocks, mixedSamples, stillSamples, StillOk};
-use crate::advance::FRAMES;
 use crate::advance::advance;
+use chunk::Amplitudes;
+use chunk::FRAMES;
+use chunk::Levels;
+use chunk::Places;
 use clock::Clocks;
+use gain_table::GainTable;
+use level_amplitudes::Parts;
+use limits::CHUNK_FRAMES;
 use scene::Head;
 use track::process_flat;
 
 // The mix of a chunk, by the parts of a full chunk or of a block's last one.
 fn mix_chunk(
-    places: &[usize; 389],
-    values: &[f32; 210],
-    full: &[f32; 256],
-    last: &[f32; 256],
+    places: &Places,
+    levels: &Levels,
+    amplitudes: &Amplitudes,
+    full: &Parts,
+    last: &Parts,
     ends: bool,
-    table: &[u64; 1345],
+    table: &GainTable,
     samples: &[f32],
     mix: &mut [f32],
 )
     requires { ⌜ IsGainTable (now table) ⌝ }
-    requires { ⌜ ChunkOk (chunkFrom (now places) (now values)) (now samples) ⌝ }
-    requires { ⌜ IsParts (chunkFrom (now places) (now values) .frames) (cond ends (now last) (now full)) ⌝ }
-    requires { ⌜ 2 * chunkFrom (now places) (now values) .frames ≤ length (now mix) ⌝ }
-    ensures { λ _. ⌜ now (mix .exit) ≡ withFrames (mixedSet (chunkFrom (now (places .entry)) (now (values .entry))) (now (samples .entry))) (chunkFrom (now (places .entry)) (now (values .entry)) .frames) (now (mix .entry)) ⌝ }
+    requires { ⌜ ChunkOk (chunkFrom (now places) (now levels) (now amplitudes)) (now samples) ⌝ }
+    requires { ⌜ cond ends (now last) (now full) ≡ partsOf (chunkFrom (now places) (now levels) (now amplitudes) .frames) ⌝ }
+    requires { ⌜ 2 * chunkFrom (now places) (now levels) (now amplitudes) .frames ≤ length (now mix) ⌝ }
+    ensures { λ _. ⌜ (let c = chunkFrom (now (places .entry)) (now (levels .entry)) (now (amplitudes .entry)) in
+        now (mix .exit) ≡ withFrames (scratch 0 (c .frames)) (mixedSet c (now (samples .entry))) (now (mix .entry))) ⌝ }
 {
     if ends {
-        process_flat(places, values, last, table, samples, mix);
+        process_flat(places, levels, amplitudes, last, table, samples, mix);
     } else {
-        process_flat(places, values, full, table, samples, mix);
+        process_flat(places, levels, amplitudes, full, table, samples, mix);
     }
 }
 
 // A chunk: its frames are mixed, and then the sounds have played them.
 fn steady_chunk(
-    places: &mut [usize; 389],
-    values: &[f32; 210],
-    full: &[f32; 256],
-    last: &[f32; 256],
+    places: &mut Places,
+    levels: &Levels,
+    amplitudes: &Amplitudes,
+    full: &Parts,
+    last: &Parts,
     ends: bool,
     frames: usize,
     channels: usize,
-    table: &[u64; 1345],
+    table: &GainTable,
     samples: &[f32],
     out: &mut [f32],
 )
     requires { ⌜ IsGainTable (now table) ⌝ }
-    requires { ⌜ length (now places) ≡ 389 ⌝ }
-    requires { ⌜ ChunkOk (chunkFrom (framed frames (now places)) (now values)) (now samples) ⌝ }
-    requires { ⌜ TracksThere (now places) (getD (now places) 388 0) ⌝ }
-    requires { ⌜ IsParts frames (cond ends (now last) (now full)) ⌝ }
-    requires { ⌜ channels ≤ 8 ⌝ }
+    requires { ⌜ length (now places) ≡ placesSize ⌝ }
+    requires { ⌜ ChunkOk (chunkFrom (framed frames (now places)) (now levels) (now amplitudes)) (now samples) ⌝ }
+    requires { ⌜ TracksThere (now places) (getD (now places) soundCountPlace 0) ⌝ }
+    requires { ⌜ cond ends (now last) (now full) ≡ partsOf frames ⌝ }
+    requires { ⌜ channels ≤ channelsMost ⌝ }
     requires { ⌜ length (now out) ≡ frames * channels ⌝ }
     ensures places { λ _. ⌜ now (places .exit) ≡ advanced frames (framed frames (now (places .entry))) ⌝ }
-    ensures samples { λ _. ⌜ now (out .exit) ≡ mixedSamples channels frames (chunkFrom (framed frames (now (places .entry))) (now (values .entry))) (now (samples .entry)) ⌝ }
+    ensures samples { λ _. ⌜ now (out .exit) ≡ mixedSamples channels frames
+        (chunkFrom (framed frames (now (places .entry))) (now (levels .entry)) (now (amplitudes .entry))) (now (samples .entry)) ⌝ }
 {
     places[FRAMES] = frames;
-    let mut mix = [0.0f32; 512];
-    mix_chunk(places, values, full, last, ends, table, samples, &mut mix);
+    let mut mix = [0.0f32; 2 * CHUNK_FRAMES];
+    mix_chunk(
+        places,
+        levels,
+        amplitudes,
+        full,
+        last,
+        ends,
+        table,
+        samples,
+        &mut mix,
+    );
     renderer::write_frames(out, channels, &mix, frames);
     advance(places, frames);
 }
 
 // A block. `full` has the parts of a chunk of `buffer` frames, `last` those of the last chunk.
 pub fn steady_block(
-    places: &mut [usize; 389],
-    values: &[f32; 210],
+    places: &mut Places,
+    levels: &Levels,
+    amplitudes: &Amplitudes,
     clocks: Clocks,
     head: Head,
     samples: &[f32],
-    table: &[u64; 1345],
-    full: &[f32; 256],
-    last: &[f32; 256],
+    table: &GainTable,
+    full: &Parts,
+    last: &Parts,
     out: &mut [f32],
 ) -> Clocks
     requires { ⌜ IsGainTable (now table) ⌝ }
-    requires { ⌜ StillOk head (now places) (now values) (now samples) clocks ⌝ }
-    requires { ⌜ IsParts (head .buffer) (now full) ⌝ }
-    requires { ⌜ IsParts (chunkFrames head (chunkCount head - 1)) (now last) ⌝ }
+    requires { ⌜ StillOk head (now places) (now levels) (now amplitudes) (now samples) clocks ⌝ }
+    requires { ⌜ now full ≡ partsOf (head .buffer) ⌝ }
+    requires { ⌜ now last ≡ partsOf (chunkFrames head (chunkCount head - 1)) ⌝ }
     requires { ⌜ length (now out) ≡ head .block * head .channels ⌝ }
     ensures clocks { λ r. ⌜ r ≡ stillClocks head (chunkCount head) clocks ⌝ }
     ensures places { λ _. ⌜ now (places .exit) ≡ stillPlaces head (chunkCount head) (now (places .entry)) ⌝ }
-    ensures samples { λ _. ⌜ now (out .exit) ≡ stillSamples head (now (places .entry)) (now (values .entry)) (now (samples .entry)) ⌝ }
+    ensures samples { λ _. ⌜ now (out .exit) ≡ stillSamples head
+        (now (places .entry)) (now (levels .entry)) (now (amplitudes .entry)) (now (samples .entry)) ⌝ }
 {
     let channels = head.channels;
     let count = renderer::chunk_count(head);
@@ -103,7 +126,8 @@ pub fn steady_block(
         let ends = k + 1 == count;
         steady_chunk(
             places,
-            values,
+            levels,
+            amplitudes,
             full,
             last,
             ends,

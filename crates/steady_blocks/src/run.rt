@@ -2,16 +2,25 @@
 ghost use mathlib.Core.Path.{_≡_};
 ghost use Prim.Native.Nat.{ℕ, _+_, _-_, _*_, _≤_, _<_};
 ghost use lib.ListN.{length, getD};
+ghost use Rattle.limits.specs.Limits.{orderLines, soundLines};
 ghost use Rattle.laws.specs.Pieces.{pieces, putAt};
 ghost use Rattle.gain_table.specs.GainTable.{IsGainTable};
 ghost use Rattle.accepted.specs.Lines.{soundLine};
 ghost use Rattle.renderer.specs.Renderer.{chunkCount, chunkFrames, blockSamples};
-ghost use Rattle.chunk.specs.Chunk.{IsParts};
+ghost use Rattle.chunk.specs.Flat.{soundLeftsFrom};
+ghost use Rattle.chunk.specs.Chunk.{partsOf};
 ghost use Rattle.steady_mixer.specs.Steady.{afterRun};
 ghost use Rattle.steady_blocks.specs.SteadyBlock.{blocksRun, nearerBlock, nextOrders, playedBy, RunOk};
-use crate::advance::SOUND_LEFTS;
 use crate::block::steady_block;
+use chunk::LEVELS;
+use chunk::PLACES;
+use chunk::Places;
+use chunk::SOUND_LEFTS;
 use clock::Clocks;
+use gain_table::GainTable;
+use level_amplitudes::Parts;
+use limits::ROUTE_LINES;
+use limits::SOUND_LINES;
 use mixer::Mixer;
 use scene::Scene;
 
@@ -34,7 +43,7 @@ fn nearer_block(first: usize, block: usize, end: usize) -> usize
 
 // The next block with orders, or the show's end.
 fn next_orders(scene: Scene, first: usize) -> usize
-    requires { ⌜ scene .«order_count» ≤ 128 ⌝ }
+    requires { ⌜ scene .«order_count» ≤ orderLines ⌝ }
     ensures { λ r. ⌜ r ≡ nextOrders scene first ⌝ }
 {
     let orders = scene.orders;
@@ -51,9 +60,9 @@ fn next_orders(scene: Scene, first: usize) -> usize
 }
 
 // How far sounds have played, by what the tables have left of them.
-fn played_by(scene: Scene, places: &[usize; 389], played: [usize; 64]) -> [usize; 64]
-    requires { ⌜ scene .«sound_count» ≤ 64 ⌝ }
-    requires { ⌜ ((k : ℕ) → k < scene .«sound_count» → getD (now places) (320 + k) 0 ≤ soundLine scene k .count) ⌝ }
+fn played_by(scene: Scene, places: &Places, played: [usize; SOUND_LINES]) -> [usize; SOUND_LINES]
+    requires { ⌜ scene .«sound_count» ≤ soundLines ⌝ }
+    requires { ⌜ ((k : ℕ) → k < scene .«sound_count» → getD (now places) (soundLeftsFrom + k) 0 ≤ soundLine scene k .count) ⌝ }
     ensures { λ r. ⌜ r ≡ playedBy scene (now (places .entry)) played ⌝ }
 {
     let lines = scene.sounds;
@@ -68,7 +77,7 @@ fn played_by(scene: Scene, places: &[usize; 389], played: [usize; 64]) -> [usize
     done
 }
 
-fn with_run(mixer: Mixer, clocks: Clocks, played: [usize; 64]) -> Mixer
+fn with_run(mixer: Mixer, clocks: Clocks, played: [usize; SOUND_LINES]) -> Mixer
     ensures { λ r. ⌜ r ≡ afterRun clocks played mixer ⌝ }
 {
     let main_volume = mixer.main_volume;
@@ -90,27 +99,29 @@ pub fn steady_blocks(
     mixer: Mixer,
     scene: Scene,
     samples: &[f32],
-    table: &[u64; 1345],
-    full: &[f32; 256],
-    last: &[f32; 256],
+    table: &GainTable,
+    full: &Parts,
+    last: &Parts,
     first: usize,
     out: &mut [f32],
 ) -> Run
     requires { ⌜ IsGainTable (now table) ⌝ }
     requires { ⌜ RunOk scene mixer first (now samples) ⌝ }
-    requires { ⌜ IsParts (scene .head .buffer) (now full) ⌝ }
-    requires { ⌜ IsParts (chunkFrames (scene .head) (chunkCount (scene .head) - 1)) (now last) ⌝ }
+    requires { ⌜ now full ≡ partsOf (scene .head .buffer) ⌝ }
+    requires { ⌜ now last ≡ partsOf (chunkFrames (scene .head) (chunkCount (scene .head) - 1)) ⌝ }
     requires { ⌜ length (now out) ≡ scene .head .block * scene .head .blocks * scene .head .channels ⌝ }
     ensures block { λ r. ⌜ r .block ≡ nextOrders scene first ⌝ }
     ensures mixer { λ r. ⌜ r .mixer ≡ blocksRun scene (nextOrders scene first - first) mixer ⌝ }
-    ensures samples { λ _. ⌜ now (out .exit) ≡ putAt (first * (scene .head .block * scene .head .channels)) (pieces (λ j. blockSamples scene (now (samples .entry)) (blocksRun scene j mixer)) (nextOrders scene first - first)) (now (out .entry)) ⌝ }
+    ensures samples { λ _. ⌜ now (out .exit) ≡ putAt (first * (scene .head .block * scene .head .channels))
+        (pieces (λ j. blockSamples scene (now (samples .entry)) (blocksRun scene j mixer)) (nextOrders scene first - first)) (now (out .entry)) ⌝ }
 {
     let head = scene.head;
     let width = head.block * head.channels;
     let chunk = mixer_chunk::chunk_of(scene, mixer, head.buffer, table);
-    let mut places = [0usize; 389];
-    let mut values = [0.0f32; 210];
-    chunk::flatten(chunk, &mut places, &mut values);
+    let mut places = [0usize; PLACES];
+    let mut levels = [0.0f32; LEVELS];
+    let mut amplitudes = [0.0f32; ROUTE_LINES];
+    chunk::flatten(chunk, &mut places, &mut levels, &mut amplitudes);
     let end = next_orders(scene, first);
     let count = end - first;
     let mut clocks = mixer.clocks;
@@ -120,7 +131,8 @@ pub fn steady_blocks(
         let to = from + width;
         clocks = steady_block(
             &mut places,
-            &values,
+            &levels,
+            &amplitudes,
             clocks,
             head,
             samples,

@@ -1,2 +1,2 @@
-// Document 01's worked examples, proved from the definitions as rows of one list; see specs/. There is
+// Worked examples, proved from the definitions as rows of one list; see specs/. There is
 // no code here.

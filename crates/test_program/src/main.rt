@@ -1,4 +1,4 @@
-// Reads cases from standard input (`vectors`, cases.rt) and prints what the render program prints for the two files of each.
+// Reads cases from standard input (`test_replay`, cases.rt) and prints what the render program prints for the two files of each.
 ghost use Prim.Native.Nat.{_≤_};
 ghost use lib.ListN.{length};
 use libc::STDIN_FILENO;

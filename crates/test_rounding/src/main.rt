@@ -1,4 +1,4 @@
-// Runs the lists of vectors of the crate `number` (docs/VECTORS.md), and says of each list how many
+// Runs the lists of vectors of the crate `rounding` (docs/VECTORS.md), and says of each list how many
 // rows were checked and how many were wrong.
 use test_replay::Column;
 use test_replay::Column32;

@@ -1,13 +1,16 @@
-// Reads cases from standard input (`vectors`, cases.rt) and prints the number of each.
+// Reads cases from standard input (`test_replay`, cases.rt) and prints the number of each.
 ghost use Prim.Native.Nat.{_≤_};
 ghost use lib.ListN.{length};
 use libc::STDIN_FILENO;
 use libc::STDOUT_FILENO;
 
+// The most samples of a case.
+const SAMPLES: usize = 16384;
+
 fn number_of(file: &[u8], bytes: &[u8], output: usize) -> u32 {
-    let mut room = [0.0f32; 16384];
-    let n = test_replay::samples_of(bytes, &mut room);
-    let answer = scene_reader::read_scene(file, &room[..n], output);
+    let mut samples = [0.0f32; SAMPLES];
+    let n = test_replay::samples_of(bytes, &mut samples);
+    let answer = scene_reader::read_scene(file, &samples[..n], output);
     answer.number
 }
 

@@ -1,27 +1,25 @@
 -- backend/resources/mixer.rs and track/main.rs: the mix of a chunk.
 use mathlib.Core.List.{List}
-use Prim.Native.Nat.{ℕ, suc, _*_}
+use Prim.Native.Nat.{ℕ, suc}
 use lib.Ieee.{Float}
+use Rattle.limits.specs.Limits.{trackDepth}
 use Rattle.laws.specs.Loop.{downto}
 use Rattle.frame.specs.declared.frame.Frame.{Frame}
 use Rattle.chunk.specs.declared.chunk.Chunk.{Chunk}
 use Rattle.frame.specs.Frame.{zeroFrame, added, scaled}
+use Rattle.frame.specs.Layout.{frameAt}
 use Rattle.chunk.specs.Chunk.{amountAt, levelAmplitude, sendRow}
 use Rattle.track.specs.Sound.{withSounds}
-use Rattle.track.specs.Sub.{overSubTracks, trackFrame, withTrackSends, onSends}
-use Rattle.track.specs.Send.{sendFrame, addedSend}
-
--- tracks stand at most so many levels below the mixer
-abbrev pub levels : ℕ
-levels = 4
+use Rattle.track.specs.Sub.{overSubTracks, trackFrame, withSubSends}
+use Rattle.track.specs.Send.{sendFrame, addedSend, sendLayout}
 
 -- what all tracks add to send track s, counted from 1
 unfoldable pub sendInput : Chunk → List Float → ℕ → ℕ → Frame
-sendInput c samples s i = overSubTracks c 0 (λ line x. withTrackSends levels c samples line s i x) zeroFrame
+sendInput c samples s i = withSubSends trackDepth c samples 0 s i zeroFrame
 
 -- the sum of the tracks right under the mixer
 unfoldable pub tracksFrame : Chunk → List Float → ℕ → Frame
-tracksFrame c samples i = overSubTracks c 0 (λ line x. added x (trackFrame levels c samples line i)) zeroFrame
+tracksFrame c samples i = overSubTracks c 0 (λ line x. added x (trackFrame trackDepth c samples line i)) zeroFrame
 
 -- Frame i: the tracks, then the send tracks, then the main track's sounds, and the main volume.
 unfoldable pub mixedFrame : Chunk → List Float → ℕ → Frame
@@ -34,13 +32,9 @@ mixedFrame c samples i =
 unfoldable pub tracksSet : Chunk → List Float → ℕ → Frame → Frame
 tracksSet c samples i a = tracksFrame c samples i
 
--- what all tracks add to the send tracks' inputs
-unfoldable pub withAllSends : Chunk → List Float → ℕ → Frame → Frame
-withAllSends c samples = onSends (c .frames) (λ s i a. overSubTracks c 0 (λ line x. withTrackSends levels c samples line s i x) a)
-
 -- the send tracks' scaled frames added, their inputs given as a buffer
 unfoldable pub withSendTracks : Chunk → List Float → ℕ → Frame → Frame
-withSendTracks c inputs i a = downto (λ s x. addedSend (sendRow c s) (c .frames) inputs (s * 256) i x) (c .«send_count») a
+withSendTracks c inputs i a = downto (λ s x. addedSend (sendRow c s) (c .frames) (frameAt (sendLayout s (c .frames)) inputs) i x) (c .«send_count») a
 
 unfoldable pub mixedSet : Chunk → List Float → ℕ → Frame → Frame
 mixedSet c samples i a = mixedFrame c samples i

@@ -1,10 +1,13 @@
 -- track/send.rs.
 use mathlib.Core.List.{List}
-use Prim.Native.Nat.{ℕ, _+_}
+use Prim.Native.Nat.{ℕ, suc, _*_}
 use lib.Ieee.{Float}
+use Rattle.limits.specs.Limits.{sendLines, chunkFramesMost}
+use Rattle.laws.specs.Loop.{upto}
 use Rattle.frame.specs.declared.frame.Frame.{Frame}
 use Rattle.chunk.specs.declared.chunk.Level.{Level}
-use Rattle.frame.specs.Frame.{zeroFrame, added, scaled, frameAt}
+use Rattle.frame.specs.Frame.{zeroFrame, added, scaled}
+use Rattle.frame.specs.Layout.{Layout, scratch, withFrames}
 use Rattle.chunk.specs.Chunk.{amountAt, levelAmplitude}
 
 -- a send track's input to its scaled frame, at frame i of n
@@ -17,6 +20,22 @@ sendFrame level n i input = scaled (added zeroFrame input) (levelAmplitude level
 unfoldable pub levelScaled : Level → ℕ → ℕ → Frame → Frame
 levelScaled level n i a = scaled a (levelAmplitude level (amountAt i n))
 
--- a send track's scaled frames added onto a mix; its input stands in a buffer from frame `first` on
-unfoldable pub addedSend : Level → ℕ → List Float → ℕ → ℕ → Frame → Frame
-addedSend level n inputs first i a = added a (sendFrame level n i (frameAt inputs (first + i)))
+-- a send track's scaled frames added onto a mix, from its input
+unfoldable pub addedSend : Level → ℕ → (ℕ → Frame) → ℕ → Frame → Frame
+addedSend level n input i a = added a (sendFrame level n i (input i))
+
+-- ---- The inputs of all send tracks stand in one buffer, each in its own part, which has room for the longest chunk.
+
+abbrev pub sendPart : ℕ
+sendPart = 2 * chunkFramesMost
+
+abbrev pub sendPlaces : ℕ
+sendPlaces = sendLines * sendPart
+
+-- the frames of send track s + 1
+abbrev pub sendLayout : (s n : ℕ) → Layout (s * sendPart) n
+sendLayout s n = scratch (s * sendPart) n
+
+-- a step on the n frames of each send track, which are counted from 1
+unfoldable pub onSends : ℕ → (ℕ → ℕ → Frame → Frame) → List Float → List Float
+onSends n f l = upto (λ s r. withFrames (sendLayout s n) (f (suc s)) r) sendLines l

@@ -8,12 +8,12 @@ use Rattle.laws.specs.Loop.{downto}
 use Rattle.frame.specs.declared.frame.Frame.{Frame}
 use Rattle.chunk.specs.declared.chunk.ChunkSound.{ChunkSound}
 use Rattle.chunk.specs.declared.chunk.Chunk.{Chunk}
-use Rattle.frame.specs.Frame.{zeroFrame, added, frameAt}
+use Rattle.frame.specs.Frame.{zeroFrame, added, sampleFrame}
 use Rattle.chunk.specs.Chunk.{soundRow}
 
 -- what a sound plays at frame i of the chunk
 unfoldable pub soundFrame : List Float → ChunkSound → ℕ → Frame
-soundFrame samples s i = cond (ltb i (s .left)) (frameAt samples (s .start + i)) zeroFrame
+soundFrame samples s i = cond (ltb i (s .left)) (sampleFrame samples (s .start + i)) zeroFrame
 
 -- one sound, as a step on frames
 unfoldable pub addedSound : List Float → ChunkSound → ℕ → Frame → Frame

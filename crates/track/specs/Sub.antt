@@ -2,14 +2,14 @@
 -- counted from 1; what is right below line 0 stands under the mixer. Sums start at +0.0 and take the latest line first.
 use mathlib.Core.Bool.{cond, _&&_}
 use mathlib.Core.List.{List}
-use Prim.Native.Nat.{ℕ, zero, suc, _+_, _-_, _/_, _%_}
-use lib.Dec.{eqb, ltb}
+use Prim.Native.Nat.{ℕ, zero, suc, _-_}
+use lib.Dec.{eqb}
 use lib.Ieee.{Float}
 use Rattle.laws.specs.Loop.{upto, downto}
 use Rattle.frame.specs.declared.frame.Frame.{Frame}
 use Rattle.chunk.specs.declared.chunk.Chunk.{Chunk}
 use Rattle.chunk.specs.declared.chunk.ChunkTrack.{ChunkTrack}
-use Rattle.frame.specs.Frame.{zeroFrame, added, scaled, frameAt}
+use Rattle.frame.specs.Frame.{zeroFrame, added, scaled}
 use Rattle.chunk.specs.Chunk.{amountAt, trackAmplitude, trackRow, routeRow}
 use Rattle.track.specs.Sound.{withSounds}
 
@@ -17,15 +17,23 @@ use Rattle.track.specs.Sound.{withSounds}
 unfoldable pub overSubTracks : Chunk → ℕ → (ℕ → Frame → Frame) → Frame → Frame
 overSubTracks c line step a = downto (λ j x. cond (eqb (trackRow c j .parent) line) (step (suc j) x) x) (c .«track_count») a
 
--- Frame i of track `line`, with d levels of tracks left: the tracks below it, then its sounds, then volume times fade.
+-- Frame i of track `line` before its volume: the tracks below it, `under` being their frames, then its sounds.
+unfoldable pub sumOver : (ℕ → Frame) → Chunk → List Float → ℕ → ℕ → Frame
+sumOver under c samples line i = withSounds c samples line i (overSubTracks c line (λ below x. added x (under below)) zeroFrame)
+
+-- Frame i of track `line`, with d levels of tracks left: its sum, then volume times fade.
 -- A track that does not advance gives zeros, and those below it are not asked.
 unfoldable pub trackFrame : ℕ → Chunk → List Float → ℕ → ℕ → Frame
 trackFrame zero c samples line i = zeroFrame
 trackFrame (suc d) c samples line i =
     let track = trackRow c (line - 1) in
     cond (track .advancing)
-    (scaled (withSounds c samples line i (overSubTracks c line (λ below x. added x (trackFrame d c samples below i)) zeroFrame)) (trackAmplitude track (amountAt i (c .frames))))
+    (scaled (sumOver (λ below. trackFrame d c samples below i) c samples line i) (trackAmplitude track (amountAt i (c .frames))))
     zeroFrame
+
+-- its sum, with d levels of tracks below it
+abbrev pub trackSum : ℕ → Chunk → List Float → ℕ → ℕ → Frame
+trackSum d c samples line i = sumOver (λ below. trackFrame d c samples below i) c samples line i
 
 -- the routes of a track to send track s (counted from 1): a route adds the track's scaled frame, times its amplitude at the chunk's end
 unfoldable pub withRoutes : Chunk → ℕ → ℕ → Frame → Frame → Frame
@@ -40,28 +48,20 @@ withTrackSends (suc d) c samples line s i a =
     (withRoutes c line s (trackFrame (suc d) c samples line i) (overSubTracks c line (λ below x. withTrackSends d c samples below s i x) a))
     a
 
+-- what the tracks below it add
+unfoldable pub withSubSends : ℕ → Chunk → List Float → ℕ → ℕ → ℕ → Frame → Frame
+withSubSends d c samples line s i a = overSubTracks c line (λ below x. withTrackSends d c samples below s i x) a
+
 -- ---- the same as steps on the frames of a buffer
+
+-- its frames before its volume
+unfoldable pub sumSet : ℕ → Chunk → List Float → ℕ → ℕ → Frame → Frame
+sumSet d c samples line i a = trackSum d c samples line i
 
 -- volume times fade
 unfoldable pub trackScaled : ChunkTrack → ℕ → ℕ → Frame → Frame
 trackScaled track n i a = scaled a (trackAmplitude track (amountAt i n))
 
--- a track's frames added onto a sum
-unfoldable pub addedTrack : ℕ → Chunk → List Float → ℕ → ℕ → Frame → Frame
-addedTrack d c samples line i a = added a (trackFrame d c samples line i)
-
--- The inputs of all send tracks stand in one buffer: send track s, counted from 1, has its frames from (s - 1) * 256 on. So frame k
--- of it is frame k % 256 of send track k / 256 + 1, where the chunk is that long.
-abbrev pub sendFrames : ℕ
-sendFrames = 2048
-
-unfoldable pub onSends : ℕ → (ℕ → ℕ → Frame → Frame) → ℕ → Frame → Frame
-onSends n f k a = cond (ltb (k % 256) n) (f (k / 256 + 1) (k % 256) a) a
-
--- the routes of a track whose frames are in a buffer
-unfoldable pub withRoutesFrom : Chunk → ℕ → List Float → ℕ → Frame → Frame
-withRoutesFrom c line out = onSends (c .frames) (λ s i a. withRoutes c line s (frameAt out i) a)
-
--- what a track and those below it send
-unfoldable pub withSendsOf : ℕ → Chunk → List Float → ℕ → ℕ → Frame → Frame
-withSendsOf d c samples line = onSends (c .frames) (λ s i a. withTrackSends d c samples line s i a)
+-- the routes of a track whose scaled frames are given
+unfoldable pub withRoutesFrom : Chunk → ℕ → (ℕ → Frame) → ℕ → ℕ → Frame → Frame
+withRoutesFrom c line frames s i a = withRoutes c line s (frames i) a

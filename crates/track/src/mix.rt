@@ -3,20 +3,28 @@ ghost use mathlib.Core.Path.{_≡_};
 ghost use Prim.Native.Nat.{_*_, _≤_};
 ghost use lib.ListN.{length};
 ghost use Rattle.gain_table.specs.GainTable.{IsGainTable};
-ghost use Rattle.frame.specs.Frame.{withFrames};
-ghost use Rattle.chunk.specs.Chunk.{ChunkOk, IsParts};
+ghost use Rattle.limits.specs.Limits.{trackDepth};
+ghost use Rattle.frame.specs.Layout.{scratch, withFrames};
+ghost use Rattle.chunk.specs.Chunk.{ChunkOk, partsOf};
 ghost use Rattle.chunk.specs.Flat.{chunkFrom};
 ghost use Rattle.track.specs.Owners.{subTrackLinks, soundLinks};
-ghost use Rattle.track.specs.Sub.{sendFrames};
-ghost use Rattle.track.specs.Mix.{mixedSet, tracksSet, withAllSends, withSendTracks};
+ghost use Rattle.track.specs.Sub.{withSubSends};
+ghost use Rattle.track.specs.Mix.{mixedSet, tracksSet, withSendTracks};
+ghost use Rattle.track.specs.Send.{sendPlaces, onSends};
+use crate::send::SEND_PART;
+use crate::send::SEND_PLACES;
 use crate::send::add_send;
 use crate::send::apply_level;
 use crate::sound::add_sounds;
 use crate::sub;
-use crate::sub::WIDTH;
+use chunk::Amplitudes;
 use chunk::Chunk;
 use chunk::FRAMES;
+use chunk::LEVELS;
+use chunk::Levels;
 use chunk::PARENTS;
+use chunk::PLACES;
+use chunk::Places;
 use chunk::SEND_COUNT;
 use chunk::SOUND_COUNT;
 use chunk::SOUND_TRACKS;
@@ -26,76 +34,87 @@ use chunk::main_level;
 use chunk::parts_of;
 use chunk::send_at;
 use frame::clear;
+use gain_table::GainTable;
+use level_amplitudes::Parts;
+use limits::ROUTE_LINES;
+use limits::TRACK_DEPTH;
+use links::Links;
+use links::last_line;
+use links::line_before;
 use links::links_of;
-
-// How many levels of tracks there are.
-const LEVELS: usize = 4;
 
 // Sets `out` to the sum of the tracks right under the mixer, latest line first.
 fn process_tracks(
-    places: &[usize; 389],
-    values: &[f32; 210],
-    sub_tracks: &[usize; 97],
-    sounds: &[usize; 97],
-    parts: &[f32; 256],
-    table: &[u64; 1345],
+    places: &Places,
+    levels: &Levels,
+    amplitudes: &Amplitudes,
+    sub_tracks: &Links,
+    sounds: &Links,
+    parts: &Parts,
+    table: &GainTable,
     samples: &[f32],
     out: &mut [f32],
     sends: &mut [f32],
 )
     requires { ⌜ IsGainTable (now table) ⌝ }
-    requires { ⌜ ChunkOk (chunkFrom (now places) (now values)) (now samples) ⌝ }
-    requires { ⌜ (now «sub_tracks» ≡ subTrackLinks (chunkFrom (now places) (now values))) × (now sounds ≡ soundLinks (chunkFrom (now places) (now values))) ⌝ }
-    requires { ⌜ IsParts (chunkFrom (now places) (now values) .frames) (now parts) ⌝ }
-    requires { ⌜ 2 * chunkFrom (now places) (now values) .frames ≤ length (now out) ⌝ }
-    requires { ⌜ length (now sends) ≡ 2 * sendFrames ⌝ }
-    ensures frames { λ _. ⌜ now (out .exit) ≡ withFrames (tracksSet (chunkFrom (now (places .entry)) (now (values .entry))) (now (samples .entry))) (chunkFrom (now (places .entry)) (now (values .entry)) .frames) (now (out .entry)) ⌝ }
-    ensures sends { λ _. ⌜ now (sends .exit) ≡ withFrames (withAllSends (chunkFrom (now (places .entry)) (now (values .entry))) (now (samples .entry))) sendFrames (now (sends .entry)) ⌝ }
+    requires { ⌜ ChunkOk (chunkFrom (now places) (now levels) (now amplitudes)) (now samples) ⌝ }
+    requires { ⌜ (let c = chunkFrom (now places) (now levels) (now amplitudes) in
+        (now «sub_tracks» ≡ subTrackLinks c) × (now sounds ≡ soundLinks c)) ⌝ }
+    requires { ⌜ (let c = chunkFrom (now places) (now levels) (now amplitudes) in now parts ≡ partsOf (c .frames)) ⌝ }
+    requires { ⌜ (let c = chunkFrom (now places) (now levels) (now amplitudes) in 2 * c .frames ≤ length (now out)) ⌝ }
+    requires { ⌜ length (now sends) ≡ sendPlaces ⌝ }
+    ensures frames { λ _. ⌜ (let c = chunkFrom (now (places .entry)) (now (levels .entry)) (now (amplitudes .entry)) in
+        now (out .exit) ≡ withFrames (scratch 0 (c .frames)) (tracksSet c (now (samples .entry))) (now (out .entry))) ⌝ }
+    ensures sends { λ _. ⌜ (let c = chunkFrom (now (places .entry)) (now (levels .entry)) (now (amplitudes .entry)) in
+        now (sends .exit) ≡ onSends (c .frames) (withSubSends trackDepth c (now (samples .entry)) 0) (now (sends .entry))) ⌝ }
 {
     let frames = places[FRAMES];
     clear(out, frames);
-    let mut j = sub_tracks[0];
+    let mut j = last_line(sub_tracks, 0);
     while 0 < j {
         sub::process(
             places,
-            values,
+            levels,
+            amplitudes,
             sub_tracks,
             sounds,
             parts,
             table,
             samples,
             j,
-            LEVELS,
+            TRACK_DEPTH,
             out,
             sends,
         );
-        j = sub_tracks[32 + j];
+        j = line_before(sub_tracks, j);
     }
 }
 
 // Adds the send tracks' scaled frames, latest line first.
 fn add_sends(
-    places: &[usize; 389],
-    values: &[f32; 210],
-    parts: &[f32; 256],
-    table: &[u64; 1345],
+    places: &Places,
+    levels: &Levels,
+    amplitudes: &Amplitudes,
+    parts: &Parts,
+    table: &GainTable,
     samples: &[f32],
     sends: &[f32],
     out: &mut [f32],
 )
     requires { ⌜ IsGainTable (now table) ⌝ }
-    requires { ⌜ ChunkOk (chunkFrom (now places) (now values)) (now samples) ⌝ }
-    requires { ⌜ IsParts (chunkFrom (now places) (now values) .frames) (now parts) ⌝ }
-    requires { ⌜ 2 * chunkFrom (now places) (now values) .frames ≤ length (now out) ⌝ }
-    requires { ⌜ length (now sends) ≡ 2 * sendFrames ⌝ }
-    ensures { λ _. ⌜ now (out .exit) ≡ withFrames (withSendTracks (chunkFrom (now (places .entry)) (now (values .entry))) (now (sends .entry))) (chunkFrom (now (places .entry)) (now (values .entry)) .frames) (now (out .entry)) ⌝ }
+    requires { ⌜ ChunkOk (chunkFrom (now places) (now levels) (now amplitudes)) (now samples) ⌝ }
+    requires { ⌜ (let c = chunkFrom (now places) (now levels) (now amplitudes) in now parts ≡ partsOf (c .frames)) ⌝ }
+    requires { ⌜ (let c = chunkFrom (now places) (now levels) (now amplitudes) in 2 * c .frames ≤ length (now out)) ⌝ }
+    requires { ⌜ length (now sends) ≡ sendPlaces ⌝ }
+    ensures { λ _. ⌜ (let c = chunkFrom (now (places .entry)) (now (levels .entry)) (now (amplitudes .entry)) in
+        now (out .exit) ≡ withFrames (scratch 0 (c .frames)) (withSendTracks c (now (sends .entry))) (now (out .entry))) ⌝ }
 {
     let frames = places[FRAMES];
     let mut s = places[SEND_COUNT];
     while 0 < s {
         s -= 1;
-        let level = send_at(places, values, s);
-        let first = s * WIDTH;
+        let level = send_at(places, levels, amplitudes, s);
+        let first = s * SEND_PART;
         add_send(out, sends, first, level, frames, parts, table);
     }
 }
@@ -103,26 +122,29 @@ fn add_sends(
 // Sets `out` to the mix of the chunk: tracks, then send tracks, then the main track's sounds, and the
 // main volume.
 pub fn process_flat(
-    places: &[usize; 389],
-    values: &[f32; 210],
-    parts: &[f32; 256],
-    table: &[u64; 1345],
+    places: &Places,
+    levels: &Levels,
+    amplitudes: &Amplitudes,
+    parts: &Parts,
+    table: &GainTable,
     samples: &[f32],
     out: &mut [f32],
 )
     requires { ⌜ IsGainTable (now table) ⌝ }
-    requires { ⌜ ChunkOk (chunkFrom (now places) (now values)) (now samples) ⌝ }
-    requires { ⌜ IsParts (chunkFrom (now places) (now values) .frames) (now parts) ⌝ }
-    requires { ⌜ 2 * chunkFrom (now places) (now values) .frames ≤ length (now out) ⌝ }
-    ensures { λ _. ⌜ now (out .exit) ≡ withFrames (mixedSet (chunkFrom (now (places .entry)) (now (values .entry))) (now (samples .entry))) (chunkFrom (now (places .entry)) (now (values .entry)) .frames) (now (out .entry)) ⌝ }
+    requires { ⌜ ChunkOk (chunkFrom (now places) (now levels) (now amplitudes)) (now samples) ⌝ }
+    requires { ⌜ (let c = chunkFrom (now places) (now levels) (now amplitudes) in now parts ≡ partsOf (c .frames)) ⌝ }
+    requires { ⌜ (let c = chunkFrom (now places) (now levels) (now amplitudes) in 2 * c .frames ≤ length (now out)) ⌝ }
+    ensures { λ _. ⌜ (let c = chunkFrom (now (places .entry)) (now (levels .entry)) (now (amplitudes .entry)) in
+        now (out .exit) ≡ withFrames (scratch 0 (c .frames)) (mixedSet c (now (samples .entry))) (now (out .entry))) ⌝ }
 {
-    let mut sends = [0.0f32; 4096];
+    let mut sends = [0.0f32; SEND_PLACES];
     let frames = places[FRAMES];
     let sub_tracks = links_of(places, PARENTS, places[TRACK_COUNT]);
     let sounds = links_of(places, SOUND_TRACKS, places[SOUND_COUNT]);
     process_tracks(
         places,
-        values,
+        levels,
+        amplitudes,
         &sub_tracks,
         &sounds,
         parts,
@@ -131,23 +153,33 @@ pub fn process_flat(
         out,
         &mut sends,
     );
-    add_sends(places, values, parts, table, samples, &sends, out);
-    add_sounds(out, samples, places, values, &sounds, 0);
-    let main = main_level(places, values);
+    add_sends(
+        places,
+        levels,
+        amplitudes,
+        parts,
+        table,
+        samples,
+        &sends,
+        out,
+    );
+    add_sounds(out, samples, places, levels, amplitudes, &sounds, 0);
+    let main = main_level(places, levels, amplitudes);
     apply_level(out, main, frames, parts, table);
 }
 
 // The same of a chunk whose tables are not laid out yet.
-pub fn process(chunk: Chunk, table: &[u64; 1345], samples: &[f32], out: &mut [f32])
+pub fn process(chunk: Chunk, table: &GainTable, samples: &[f32], out: &mut [f32])
     requires { ⌜ IsGainTable (now table) ⌝ }
     requires { ⌜ ChunkOk chunk (now samples) ⌝ }
     requires { ⌜ 2 * chunk .frames ≤ length (now out) ⌝ }
-    ensures { λ _. ⌜ now (out .exit) ≡ withFrames (mixedSet chunk (now (samples .entry))) (chunk .frames) (now (out .entry)) ⌝ }
+    ensures { λ _. ⌜ now (out .exit) ≡ withFrames (scratch 0 (chunk .frames)) (mixedSet chunk (now (samples .entry))) (now (out .entry)) ⌝ }
 {
-    let mut places = [0usize; 389];
-    let mut values = [0.0f32; 210];
-    flatten(chunk, &mut places, &mut values);
+    let mut places = [0usize; PLACES];
+    let mut levels = [0.0f32; LEVELS];
+    let mut amplitudes = [0.0f32; ROUTE_LINES];
+    flatten(chunk, &mut places, &mut levels, &mut amplitudes);
     let frames = chunk.frames;
     let parts = parts_of(frames);
-    process_flat(&places, &values, &parts, table, samples, out);
+    process_flat(&places, &levels, &amplitudes, &parts, table, samples, out);
 }

@@ -4,9 +4,10 @@ ghost use mathlib.Core.Path.{_≡_};
 ghost use mathlib.Core.Bool.{true};
 ghost use Prim.Native.Nat.{_+_, _*_, _≤_};
 ghost use lib.ListN.{length};
+ghost use Rattle.limits.specs.Limits.{chunkFramesMost};
 ghost use Rattle.gain_table.specs.GainTable.{IsGainTable};
-ghost use Rattle.frame.specs.Frame.{withFrames};
-ghost use Rattle.chunk.specs.Chunk.{isSteady, LevelInRange, IsParts};
+ghost use Rattle.frame.specs.Layout.{scratch, frameAt, withFrames};
+ghost use Rattle.chunk.specs.Chunk.{isSteady, partsOf, LevelInRange};
 ghost use Rattle.track.specs.Send.{levelScaled, addedSend};
 use chunk::Level;
 use decibels::Amplitude;
@@ -14,32 +15,36 @@ use frame::Frame;
 use frame::frame_at;
 use frame::put_frame;
 use frame::scale;
+use gain_table::GainTable;
+use level_amplitudes::Parts;
+use limits::CHUNK_FRAMES;
+use limits::SEND_LINES;
+
+// The inputs of all send tracks stand in one buffer, each in its own part, which has room for the
+// longest chunk.
+pub const SEND_PART: usize = 2 * CHUNK_FRAMES;
+
+pub const SEND_PLACES: usize = SEND_LINES * SEND_PART;
 
 // Scales each frame by one level.
-pub fn apply_level(
-    out: &mut [f32],
-    level: Level,
-    frames: usize,
-    parts: &[f32; 256],
-    table: &[u64; 1345],
-)
+pub fn apply_level(out: &mut [f32], level: Level, frames: usize, parts: &Parts, table: &GainTable)
     requires { ⌜ IsGainTable (now table) ⌝ }
-    requires { ⌜ (frames ≤ 256) × (2 * frames ≤ length (now out)) ⌝ }
+    requires { ⌜ (frames ≤ chunkFramesMost) × (2 * frames ≤ length (now out)) ⌝ }
     requires { ⌜ LevelInRange level ⌝ }
-    requires { ⌜ IsParts frames (now parts) ⌝ }
-    ensures { λ _. ⌜ now (out .exit) ≡ withFrames (levelScaled level frames) frames (now (out .entry)) ⌝ }
+    requires { ⌜ now parts ≡ partsOf frames ⌝ }
+    ensures { λ _. ⌜ now (out .exit) ≡ withFrames (scratch 0 frames) (levelScaled level frames) (now (out .entry)) ⌝ }
 {
     if level.is_steady() {
         let factor = level.steady_amplitude(table);
         scale(out, frames, factor);
         return;
     }
-    let mut factors = [0.0f32; 256];
+    let mut factors = [0.0f32; CHUNK_FRAMES];
     level.amplitudes(frames, parts, table, &mut factors);
     let mut i = 0;
     while i < frames {
-        let frame = frame_at(out, i).scaled(Amplitude(factors[i]));
-        put_frame(out, i, frame);
+        let frame = frame_at(out, 0, frames, i).scaled(Amplitude(factors[i]));
+        put_frame(out, 0, frames, i, frame);
         i += 1;
     }
 }
@@ -51,53 +56,55 @@ fn add_steady_send(
     first: usize,
     level: Level,
     frames: usize,
-    table: &[u64; 1345],
+    table: &GainTable,
 )
     requires { ⌜ IsGainTable (now table) ⌝ }
-    requires { ⌜ (frames ≤ 256) × (2 * frames ≤ length (now out)) ⌝ }
-    requires { ⌜ 2 * (first + frames) ≤ length (now inputs) ⌝ }
+    requires { ⌜ (frames ≤ chunkFramesMost) × (2 * frames ≤ length (now out)) ⌝ }
+    requires { ⌜ first + 2 * frames ≤ length (now inputs) ⌝ }
     requires { ⌜ LevelInRange level ⌝ }
     requires { ⌜ isSteady level ≡ true ⌝ }
-    ensures { λ _. ⌜ now (out .exit) ≡ withFrames (addedSend level frames (now (inputs .entry)) first) frames (now (out .entry)) ⌝ }
+    ensures { λ _. ⌜ now (out .exit) ≡ withFrames (scratch 0 frames)
+        (addedSend level frames (frameAt (scratch first frames) (now (inputs .entry)))) (now (out .entry)) ⌝ }
 {
     let factor = level.steady_amplitude(table);
     let mut i = 0;
     while i < frames {
-        let input = Frame::zero().added(frame_at(inputs, first + i));
+        let input = Frame::zero().added(frame_at(inputs, first, frames, i));
         let frame = input.scaled(factor);
-        put_frame(out, i, frame_at(out, i).added(frame));
+        put_frame(out, 0, frames, i, frame_at(out, 0, frames, i).added(frame));
         i += 1;
     }
 }
 
-// Adds a send track's scaled frames onto the mix. Its input stands in `inputs` from frame `first` on.
+// Adds a send track's scaled frames onto the mix. Its input stands in `inputs` from place `first` on.
 pub fn add_send(
     out: &mut [f32],
     inputs: &[f32],
     first: usize,
     level: Level,
     frames: usize,
-    parts: &[f32; 256],
-    table: &[u64; 1345],
+    parts: &Parts,
+    table: &GainTable,
 )
     requires { ⌜ IsGainTable (now table) ⌝ }
-    requires { ⌜ (frames ≤ 256) × (2 * frames ≤ length (now out)) ⌝ }
-    requires { ⌜ 2 * (first + frames) ≤ length (now inputs) ⌝ }
+    requires { ⌜ (frames ≤ chunkFramesMost) × (2 * frames ≤ length (now out)) ⌝ }
+    requires { ⌜ first + 2 * frames ≤ length (now inputs) ⌝ }
     requires { ⌜ LevelInRange level ⌝ }
-    requires { ⌜ IsParts frames (now parts) ⌝ }
-    ensures { λ _. ⌜ now (out .exit) ≡ withFrames (addedSend level frames (now (inputs .entry)) first) frames (now (out .entry)) ⌝ }
+    requires { ⌜ now parts ≡ partsOf frames ⌝ }
+    ensures { λ _. ⌜ now (out .exit) ≡ withFrames (scratch 0 frames)
+        (addedSend level frames (frameAt (scratch first frames) (now (inputs .entry)))) (now (out .entry)) ⌝ }
 {
     if level.is_steady() {
         add_steady_send(out, inputs, first, level, frames, table);
         return;
     }
-    let mut factors = [0.0f32; 256];
+    let mut factors = [0.0f32; CHUNK_FRAMES];
     level.amplitudes(frames, parts, table, &mut factors);
     let mut i = 0;
     while i < frames {
-        let input = Frame::zero().added(frame_at(inputs, first + i));
+        let input = Frame::zero().added(frame_at(inputs, first, frames, i));
         let frame = input.scaled(Amplitude(factors[i]));
-        put_frame(out, i, frame_at(out, i).added(frame));
+        put_frame(out, 0, frames, i, frame_at(out, 0, frames, i).added(frame));
         i += 1;
     }
 }

@@ -1,18 +1,25 @@
 // kira's track/sub.rs: a track's frames, and what it and the tracks below it add to the send tracks.
 ghost use mathlib.Core.Path.{_≡_};
 ghost use mathlib.Core.Bool.{true};
-ghost use Prim.Native.Nat.{_+_, _*_, _≤_, _<_};
+ghost use Prim.Native.Nat.{_*_, _≤_};
 ghost use lib.ListN.{length};
 ghost use Rattle.gain_table.specs.GainTable.{IsGainTable};
-ghost use Rattle.frame.specs.Frame.{withFrames};
-ghost use Rattle.chunk.specs.Chunk.{ChunkOk, isSteady, LevelInRange, IsParts};
+ghost use Rattle.limits.specs.Limits.{chunkFramesMost};
+ghost use Rattle.frame.specs.Frame.{addedFrom};
+ghost use Rattle.frame.specs.Layout.{scratch, frameAt, withFrames};
+ghost use Rattle.chunk.specs.Chunk.{ChunkOk, isSteady, partsOf, LevelInRange};
 ghost use Rattle.chunk.specs.Flat.{chunkFrom};
 ghost use Rattle.track.specs.Owners.{subTrackLinks, soundLinks};
-ghost use Rattle.frame.specs.Running.{AllRunning};
-ghost use Rattle.track.specs.Sub.{trackScaled, addedTrack, withRoutesFrom, withSendsOf, sendFrames};
+ghost use Rattle.frame.specs.Running.{AllRunning, AllZero};
+ghost use Rattle.track.specs.Sub.{trackFrame, trackScaled, withTrackSends, withSubSends, sumSet, withRoutesFrom};
+ghost use Rattle.track.specs.Send.{sendPlaces, onSends};
+use crate::send::SEND_PART;
 use crate::sound::add_sounds;
+use chunk::Amplitudes;
 use chunk::ChunkTrack;
 use chunk::FRAMES;
+use chunk::Levels;
+use chunk::Places;
 use chunk::ROUTE_COUNT;
 use chunk::route_at;
 use chunk::track_at;
@@ -22,80 +29,73 @@ use frame::add_scaled;
 use frame::frame_at;
 use frame::put_frame;
 use frame::scale;
+use gain_table::GainTable;
+use level_amplitudes::Parts;
+use limits::CHUNK_FRAMES;
+use links::Links;
+use links::last_line;
+use links::line_before;
 
-// The most frames of a chunk. The input of send track s, counted from 1, has its frames from
-// (s - 1) * WIDTH on.
-pub const WIDTH: usize = 256;
+// What a chunk's frames are mixed in.
+pub const SCRATCH: usize = 2 * CHUNK_FRAMES;
 
 // `apply_volume` for a fade that stands still.
 fn apply_moving_volume(
     out: &mut [f32],
     track: ChunkTrack,
     frames: usize,
-    parts: &[f32; 256],
-    table: &[u64; 1345],
+    parts: &Parts,
+    table: &GainTable,
 )
     requires { ⌜ IsGainTable (now table) ⌝ }
-    requires { ⌜ (frames ≤ 256) × (2 * frames ≤ length (now out)) ⌝ }
+    requires { ⌜ (frames ≤ chunkFramesMost) × (2 * frames ≤ length (now out)) ⌝ }
     requires { ⌜ LevelInRange (track .volume) × LevelInRange (track .fade) ⌝ }
-    requires { ⌜ IsParts frames (now parts) ⌝ }
+    requires { ⌜ now parts ≡ partsOf frames ⌝ }
     requires { ⌜ isSteady (track .fade) ≡ true ⌝ }
-    ensures { λ _. ⌜ now (out .exit) ≡ withFrames (trackScaled track frames) frames (now (out .entry)) ⌝ }
+    ensures { λ _. ⌜ now (out .exit) ≡ withFrames (scratch 0 frames) (trackScaled track frames) (now (out .entry)) ⌝ }
 {
     let volume = track.volume;
     let fade = track.fade;
     let by = fade.steady_amplitude(table);
-    let mut factors = [0.0f32; 256];
+    let mut factors = [0.0f32; CHUNK_FRAMES];
     volume.amplitudes(frames, parts, table, &mut factors);
     let mut i = 0;
     while i < frames {
-        let frame = frame_at(out, i).scaled(Amplitude(factors[i] * by.0));
-        put_frame(out, i, frame);
+        let frame = frame_at(out, 0, frames, i).scaled(Amplitude(factors[i] * by.0));
+        put_frame(out, 0, frames, i, frame);
         i += 1;
     }
 }
 
 // `apply_volume` where both may move.
-fn apply_moving(
-    out: &mut [f32],
-    track: ChunkTrack,
-    frames: usize,
-    parts: &[f32; 256],
-    table: &[u64; 1345],
-)
+fn apply_moving(out: &mut [f32], track: ChunkTrack, frames: usize, parts: &Parts, table: &GainTable)
     requires { ⌜ IsGainTable (now table) ⌝ }
-    requires { ⌜ (frames ≤ 256) × (2 * frames ≤ length (now out)) ⌝ }
+    requires { ⌜ (frames ≤ chunkFramesMost) × (2 * frames ≤ length (now out)) ⌝ }
     requires { ⌜ LevelInRange (track .volume) × LevelInRange (track .fade) ⌝ }
-    requires { ⌜ IsParts frames (now parts) ⌝ }
-    ensures { λ _. ⌜ now (out .exit) ≡ withFrames (trackScaled track frames) frames (now (out .entry)) ⌝ }
+    requires { ⌜ now parts ≡ partsOf frames ⌝ }
+    ensures { λ _. ⌜ now (out .exit) ≡ withFrames (scratch 0 frames) (trackScaled track frames) (now (out .entry)) ⌝ }
 {
     let volume = track.volume;
     let fade = track.fade;
-    let mut volumes = [0.0f32; 256];
-    let mut fades = [0.0f32; 256];
+    let mut volumes = [0.0f32; CHUNK_FRAMES];
+    let mut fades = [0.0f32; CHUNK_FRAMES];
     volume.amplitudes(frames, parts, table, &mut volumes);
     fade.amplitudes(frames, parts, table, &mut fades);
     let mut i = 0;
     while i < frames {
-        let frame = frame_at(out, i).scaled(Amplitude(volumes[i] * fades[i]));
-        put_frame(out, i, frame);
+        let frame = frame_at(out, 0, frames, i).scaled(Amplitude(volumes[i] * fades[i]));
+        put_frame(out, 0, frames, i, frame);
         i += 1;
     }
 }
 
 // Volume times fade scales each frame.
-fn apply_volume(
-    out: &mut [f32],
-    track: ChunkTrack,
-    frames: usize,
-    parts: &[f32; 256],
-    table: &[u64; 1345],
-)
+fn apply_volume(out: &mut [f32], track: ChunkTrack, frames: usize, parts: &Parts, table: &GainTable)
     requires { ⌜ IsGainTable (now table) ⌝ }
-    requires { ⌜ (frames ≤ 256) × (2 * frames ≤ length (now out)) ⌝ }
+    requires { ⌜ (frames ≤ chunkFramesMost) × (2 * frames ≤ length (now out)) ⌝ }
     requires { ⌜ LevelInRange (track .volume) × LevelInRange (track .fade) ⌝ }
-    requires { ⌜ IsParts frames (now parts) ⌝ }
-    ensures { λ _. ⌜ now (out .exit) ≡ withFrames (trackScaled track frames) frames (now (out .entry)) ⌝ }
+    requires { ⌜ now parts ≡ partsOf frames ⌝ }
+    ensures { λ _. ⌜ now (out .exit) ≡ withFrames (scratch 0 frames) (trackScaled track frames) (now (out .entry)) ⌝ }
 {
     let volume = track.volume;
     let fade = track.fade;
@@ -116,22 +116,24 @@ fn apply_volume(
 fn add_routes(
     sends: &mut [f32],
     out: &[f32],
-    places: &[usize; 389],
-    values: &[f32; 210],
+    places: &Places,
+    levels: &Levels,
+    amplitudes: &Amplitudes,
     samples: &[f32],
     line: usize,
 )
-    requires { ⌜ ChunkOk (chunkFrom (now places) (now values)) (now samples) ⌝ }
-    requires { ⌜ 2 * chunkFrom (now places) (now values) .frames ≤ length (now out) ⌝ }
-    requires { ⌜ length (now sends) ≡ 2 * sendFrames ⌝ }
-    ensures { λ _. ⌜ now (sends .exit) ≡ withFrames (withRoutesFrom (chunkFrom (now (places .entry)) (now (values .entry))) line (now (out .entry))) sendFrames (now (sends .entry)) ⌝ }
+    requires { ⌜ ChunkOk (chunkFrom (now places) (now levels) (now amplitudes)) (now samples) ⌝ }
+    requires { ⌜ (let c = chunkFrom (now places) (now levels) (now amplitudes) in 2 * c .frames ≤ length (now out)) ⌝ }
+    requires { ⌜ length (now sends) ≡ sendPlaces ⌝ }
+    ensures { λ _. ⌜ (let c = chunkFrom (now (places .entry)) (now (levels .entry)) (now (amplitudes .entry)) in
+        now (sends .exit) ≡ onSends (c .frames) (withRoutesFrom c line (frameAt (scratch 0 (c .frames)) (now (out .entry)))) (now (sends .entry))) ⌝ }
 {
     let frames = places[FRAMES];
     let mut r = 0;
     while r < places[ROUTE_COUNT] {
-        let route = route_at(places, values, r);
+        let route = route_at(places, levels, amplitudes, r);
         if route.track == line {
-            let first = (route.send - 1) * WIDTH;
+            let first = (route.send - 1) * SEND_PART;
             let amplitude = route.amplitude;
             add_scaled(sends, first, out, frames, amplitude);
         }
@@ -139,16 +141,70 @@ fn add_routes(
     }
 }
 
+// Leaves in `out`, whose frames are zeros, the frames of track `line`, counted from 1, before its
+// volume, and adds to the send tracks what the tracks below it send. `depth` is how many levels of
+// tracks are left below it.
+fn gather(
+    places: &Places,
+    levels: &Levels,
+    amplitudes: &Amplitudes,
+    sub_tracks: &Links,
+    sounds: &Links,
+    parts: &Parts,
+    table: &GainTable,
+    samples: &[f32],
+    line: usize,
+    depth: usize,
+    out: &mut [f32],
+    sends: &mut [f32],
+)
+    requires { ⌜ IsGainTable (now table) ⌝ }
+    requires { ⌜ ChunkOk (chunkFrom (now places) (now levels) (now amplitudes)) (now samples) ⌝ }
+    requires { ⌜ (let c = chunkFrom (now places) (now levels) (now amplitudes) in
+        (now «sub_tracks» ≡ subTrackLinks c) × (now sounds ≡ soundLinks c)) ⌝ }
+    requires { ⌜ (let c = chunkFrom (now places) (now levels) (now amplitudes) in now parts ≡ partsOf (c .frames)) ⌝ }
+    requires { ⌜ (let c = chunkFrom (now places) (now levels) (now amplitudes) in (1 ≤ line) × (line ≤ c .«track_count»)) ⌝ }
+    requires { ⌜ (let c = chunkFrom (now places) (now levels) (now amplitudes) in 2 * c .frames ≤ length (now out)) ⌝ }
+    requires { ⌜ length (now sends) ≡ sendPlaces ⌝ }
+    requires { ⌜ (let c = chunkFrom (now places) (now levels) (now amplitudes) in AllZero (c .frames) (now out)) ⌝ }
+    ensures sum { λ _. ⌜ (let c = chunkFrom (now (places .entry)) (now (levels .entry)) (now (amplitudes .entry)) in
+        now (out .exit) ≡ withFrames (scratch 0 (c .frames)) (sumSet depth c (now (samples .entry)) line) (now (out .entry))) ⌝ }
+    ensures sends { λ _. ⌜ (let c = chunkFrom (now (places .entry)) (now (levels .entry)) (now (amplitudes .entry)) in
+        now (sends .exit) ≡ onSends (c .frames) (withSubSends depth c (now (samples .entry)) line) (now (sends .entry))) ⌝ }
+{
+    let mut j = last_line(sub_tracks, line);
+    while 0 < j {
+        process(
+            places,
+            levels,
+            amplitudes,
+            sub_tracks,
+            sounds,
+            parts,
+            table,
+            samples,
+            j,
+            depth,
+            out,
+            sends,
+        );
+        j = line_before(sub_tracks, j);
+    }
+    add_sounds(out, samples, places, levels, amplitudes, sounds, line);
+}
+
 // Adds the frames of track `line`, counted from 1, onto the sum `to`, and to the send tracks what it
-// and the tracks below it send. `depth` is how many levels of tracks are left. The sum began at +0.0:
-// it is never -0.0, so that a track which stands still need not add its zeros.
+// and the tracks below it send: its sum is gathered, and scaled after. `depth` is how many levels of
+// tracks are left. The sum began at +0.0: it is never -0.0, so that a track which stands still need
+// not add its zeros.
 pub fn process(
-    places: &[usize; 389],
-    values: &[f32; 210],
-    sub_tracks: &[usize; 97],
-    sounds: &[usize; 97],
-    parts: &[f32; 256],
-    table: &[u64; 1345],
+    places: &Places,
+    levels: &Levels,
+    amplitudes: &Amplitudes,
+    sub_tracks: &Links,
+    sounds: &Links,
+    parts: &Parts,
+    table: &GainTable,
     samples: &[f32],
     line: usize,
     depth: usize,
@@ -156,44 +212,43 @@ pub fn process(
     sends: &mut [f32],
 )
     requires { ⌜ IsGainTable (now table) ⌝ }
-    requires { ⌜ ChunkOk (chunkFrom (now places) (now values)) (now samples) ⌝ }
-    requires { ⌜ (now «sub_tracks» ≡ subTrackLinks (chunkFrom (now places) (now values))) × (now sounds ≡ soundLinks (chunkFrom (now places) (now values))) ⌝ }
-    requires { ⌜ IsParts (chunkFrom (now places) (now values) .frames) (now parts) ⌝ }
-    requires { ⌜ (1 ≤ line) × (line ≤ chunkFrom (now places) (now values) .«track_count») ⌝ }
-    requires { ⌜ 2 * chunkFrom (now places) (now values) .frames ≤ length (now to) ⌝ }
-    requires { ⌜ length (now sends) ≡ 2 * sendFrames ⌝ }
-    requires { ⌜ AllRunning (chunkFrom (now places) (now values) .frames) (now to) ⌝ }
-    ensures frames { λ _. ⌜ now (to .exit) ≡ withFrames (addedTrack depth (chunkFrom (now (places .entry)) (now (values .entry))) (now (samples .entry)) line) (chunkFrom (now (places .entry)) (now (values .entry)) .frames) (now (to .entry)) ⌝ }
-    ensures sends { λ _. ⌜ now (sends .exit) ≡ withFrames (withSendsOf depth (chunkFrom (now (places .entry)) (now (values .entry))) (now (samples .entry)) line) sendFrames (now (sends .entry)) ⌝ }
+    requires { ⌜ ChunkOk (chunkFrom (now places) (now levels) (now amplitudes)) (now samples) ⌝ }
+    requires { ⌜ (let c = chunkFrom (now places) (now levels) (now amplitudes) in
+        (now «sub_tracks» ≡ subTrackLinks c) × (now sounds ≡ soundLinks c)) ⌝ }
+    requires { ⌜ (let c = chunkFrom (now places) (now levels) (now amplitudes) in now parts ≡ partsOf (c .frames)) ⌝ }
+    requires { ⌜ (let c = chunkFrom (now places) (now levels) (now amplitudes) in (1 ≤ line) × (line ≤ c .«track_count»)) ⌝ }
+    requires { ⌜ (let c = chunkFrom (now places) (now levels) (now amplitudes) in 2 * c .frames ≤ length (now to)) ⌝ }
+    requires { ⌜ length (now sends) ≡ sendPlaces ⌝ }
+    requires { ⌜ (let c = chunkFrom (now places) (now levels) (now amplitudes) in AllRunning (c .frames) (now to)) ⌝ }
+    ensures frames { λ _. ⌜ (let c = chunkFrom (now (places .entry)) (now (levels .entry)) (now (amplitudes .entry)) in
+        now (to .exit) ≡ withFrames (scratch 0 (c .frames)) (addedFrom (trackFrame depth c (now (samples .entry)) line)) (now (to .entry))) ⌝ }
+    ensures sends { λ _. ⌜ (let c = chunkFrom (now (places .entry)) (now (levels .entry)) (now (amplitudes .entry)) in
+        now (sends .exit) ≡ onSends (c .frames) (withTrackSends depth c (now (samples .entry)) line) (now (sends .entry))) ⌝ }
 {
     let frames = places[FRAMES];
-    let track = track_at(places, values, line - 1);
+    let track = track_at(places, levels, amplitudes, line - 1);
     if depth == 0 {
         return;
     }
     if !track.advancing {
         return;
     }
-    let mut out = [0.0f32; 512];
-    let mut j = sub_tracks[line];
-    while 0 < j {
-        process(
-            places,
-            values,
-            sub_tracks,
-            sounds,
-            parts,
-            table,
-            samples,
-            j,
-            depth - 1,
-            &mut out,
-            sends,
-        );
-        j = sub_tracks[32 + j];
-    }
-    add_sounds(&mut out, samples, places, values, sounds, line);
+    let mut out = [0.0f32; SCRATCH];
+    gather(
+        places,
+        levels,
+        amplitudes,
+        sub_tracks,
+        sounds,
+        parts,
+        table,
+        samples,
+        line,
+        depth - 1,
+        &mut out,
+        sends,
+    );
     apply_volume(&mut out, track, frames, parts, table);
-    add_routes(sends, &out, places, values, samples, line);
+    add_routes(sends, &out, places, levels, amplitudes, samples, line);
     add_frames(to, &out, frames);
 }

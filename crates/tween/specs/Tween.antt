@@ -15,7 +15,7 @@ unfoldable pub powiFrom : ℕ → Float → Float → ℕ → Float
 powiFrom zero result base left = result
 powiFrom (suc bits) result base left = powiFrom bits (cond (eqb (left % 2) 1) (mul binary64 result base) result) (mul binary64 base base) (left / 2)
 
--- `f64::powi`, as 01 has it: the result is 1 at first, and a u32 has 32 bits
+-- `f64::powi`, by squaring: the result is 1 at first, and a u32 has 32 bits
 unfoldable pub powi : Float → ℕ → Float
 powi x power = powiFrom 32 one x power
 

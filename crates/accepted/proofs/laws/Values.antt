@@ -8,7 +8,7 @@ use lib.Dec.{T, eqb, leb, lit<}
 use lib.IntN.{pos, negsuc}
 use lib.Ieee.{Float, binary32, binary64, fits, ofInt, div, neg, le}
 use lib.Ieee.Fits.{div-fits}
-use Rattle.laws.proofs.laws.Choice.{true-T}
+use Rattle.laws.proofs.laws.Choice.{true-T, and-left, and-right}
 use Rattle.laws.specs.FloatBounds.{Within}
 use Rattle.laws.proofs.laws.FloatBounds.{holds-small, holds-value, within-of-tests}
 use Rattle.laws.specs.DecibelRange.{TargetRange}
@@ -17,11 +17,10 @@ use Rattle.clock.specs.declared.clock_speed.ClockSpeed.the-variants.{SecondsPer
 use Rattle.clock.specs.ClockSpeed.{asTicksPerSecond}
 use Rattle.tween.specs.declared.start_time.StartTime.the-variants.{Immediate, Delayed, ClockTime}
 use Rattle.tween.specs.StartTime.{ClockThere}
-use Rattle.scene_tables.specs.Tables.{natural, tracks, sends, routes, raised, raisedMinus}
+use Rattle.scene_tables.specs.Tables.{natural, tracks, sends, routes, raised, raisedMinus, orderKind}
 use Rattle.scene.specs.declared.scene.OrderKind.the-variants.{MainVolume, TrackVolume, SendVolume, RouteVolume, Pause, Resume}
-use Rattle.scene_questions.specs.Questions.{Tables, linesAt, speedNumber, speedOf, targetTable, indexNamesLine, sampleOk}
+use Rattle.scene_questions.specs.Questions.{Tables, linesAt, speedOf, indexTable, indexNamesLine, sampleOk}
 use Rattle.scene.specs.Scene.{volumeOf, kindOf, clockTimeOf, startTimeOf, sceneOf}
-use Rattle.scene_questions.proofs.laws.Loops.{and-left, and-right}
 use Rattle.accepted.specs.SceneOk.{IndexOk}
 use Rattle.accepted.proofs.laws.Line.{both-le}
 
@@ -49,13 +48,14 @@ volume-target z h = go (leb 2147483648 z) refl
 -- ---- clocks
 
 pub speed-fits : (unit speed : ℕ) → T (fits binary64 (asTicksPerSecond (speedOf unit speed)))
-unfolding speedOf speedNumber asTicksPerSecond
-speed-fits unit speed = go (eqb unit (raised 0)) (eqb unit (raised 1))
+unfolding speedOf asTicksPerSecond
+speed-fits unit speed = go (ofInt binary64 (pos (natural speed))) (ofInt binary64 (pos 1000)) (eqb unit (raised 0)) (eqb unit (raised 1))
   where
-    go : (a b : Bool) → T (fits binary64 (asTicksPerSecond (cond a (SecondsPerTick (speedNumber speed)) (cond b (TicksPerSecond (speedNumber speed)) (TicksPerMinute (speedNumber speed))))))
-    go true b = div-fits binary64 _ _
-    go false true = div-fits binary64 _ _
-    go false false = div-fits binary64 _ _
+    go : (x y : Float) (a b : Bool)
+        → T (fits binary64 (asTicksPerSecond (cond a (SecondsPerTick (div binary64 x y)) (cond b (TicksPerSecond (div binary64 x y)) (TicksPerMinute (div binary64 x y))))))
+    go x y true b = div-fits binary64 _ _
+    go x y false true = div-fits binary64 _ _
+    go x y false false = div-fits binary64 _ _
 
 -- ---- orders
 
@@ -72,15 +72,15 @@ module _ (ts : Tables) (kind index : ℕ) where
   there : (t : ℕ) → (leb (raised 1) index && leb (natural index) (linesAt ts t)) ≡ true → (1 ≤ natural index) × (natural index ≤ linesAt ts t)
   there t e = natural-line 1 (linesAt ts t) index (both-le (raised 1) index (natural index) (linesAt ts t) e)
 
-  -- kind 1 is neither 2 nor 3
-  one-kind : eqb kind (raised 1) ≡ true → (eqb kind (raised 2) ≡ false) × (eqb kind (raised 3) ≡ false)
+  -- a kind is no other
+  one-kind : eqb kind (orderKind .trackVolume) ≡ true → (eqb kind (orderKind .sendVolume) ≡ false) × (eqb kind (orderKind .routeVolume) ≡ false)
   one-kind e =
-      let h : kind ≡ raised 1 = eqb-true kind (raised 1) e in
-      (ne-eqb kind (raised 2) (λ k. omega arith), ne-eqb kind (raised 3) (λ k. omega arith))
+      let h : kind ≡ orderKind .trackVolume = eqb-true kind (orderKind .trackVolume) e in
+      (ne-eqb kind (orderKind .sendVolume) (λ k. omega arith), ne-eqb kind (orderKind .routeVolume) (λ k. omega arith))
 
   pub index-ok : indexNamesLine (linesAt ts) kind index ≡ true → IndexOk (sceneOf ts) (kindOf kind) (natural index)
-  unfolding indexNamesLine targetTable kindOf sceneOf
-  index-ok = go (eqb kind (raised 0)) (eqb kind (raised 1)) (eqb kind (raised 2)) (eqb kind (raised 3)) (eqb kind (raised 4)) one-kind
+  unfolding indexNamesLine indexTable kindOf sceneOf
+  index-ok = go (eqb kind (orderKind .mainVolume)) (eqb kind (orderKind .trackVolume)) (eqb kind (orderKind .sendVolume)) (eqb kind (orderKind .routeVolume)) (eqb kind (orderKind .pause)) one-kind
     where
       go : (a b c d f : Bool) → (b ≡ true → (c ≡ false) × (d ≡ false))
           → cond a (eqb index (raised 0)) (leb (raised 1) index && leb (natural index) (linesAt ts (cond c sends (cond d routes tracks)))) ≡ true

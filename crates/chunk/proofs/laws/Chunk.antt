@@ -1,10 +1,10 @@
 -- What mixing a chunk reads: the lines, and every level before the chunk and at its end.
 use mathlib.Core.Path.{_≡_, refl, sym, ap, ap₂, _∙_, subst}
-use mathlib.Core.Bool.{Bool, false, true, not, _&&_}
+use mathlib.Core.Bool.{false, true, not}
 use mathlib.Core.List.{List}
 use Prim.Native.Nat.{ℕ, _+_, _≤_, _<_, suc, _^_}
 use lib.IntN.{pos}
-use lib.ListN.{getD, length}
+use lib.ListN.{getD, length, replicate, length-replicate}
 use lib.Ieee.{Float, nan, binary32, binary64, div, eq, ofInt, prec, round, sub, le, isNan, inFloat}
 use mathlib.Core.Logic.{inl, inr}
 use native.Mathlib.Nat.{lt-of-le-of-lt, le-trans, le-of-eq, eq-zero-or-pos}
@@ -14,13 +14,13 @@ use lib.Dec.{T, le→leb, lit<, lit≤}
 use lib.Ieee.Scale.{finite}
 use Rattle.decibels.specs.declared.decibels.Amplitude.{Amplitude}
 use Rattle.decibels.specs.Decibels.{amplitude, admitted, limit}
-use Rattle.laws.specs.Loop.{changed}
 use Rattle.laws.proofs.laws.Amount.{InUnit, place-amount}
 use Rattle.rounding.specs.Narrow.{narrowed}
 use Rattle.tween.specs.Tweenable.{interpolated}
+use Rattle.limits.specs.Limits.{chunkFramesMost}
 use Rattle.chunk.specs.declared.chunk.Level.{Level}
-use Rattle.laws.proofs.laws.Choice.{true-T}
-use Rattle.laws.proofs.laws.Loop.{changed-length, changed-below, changed-cong}
+use Rattle.laws.proofs.laws.Choice.{true-T, both-T}
+use Rattle.laws.proofs.laws.Loop.{changed-below, changed-cong}
 use Rattle.laws.specs.Float.{one}
 use Rattle.laws.proofs.laws.Float.{zero-of}
 use Rattle.laws.specs.FloatOrder.{Number, magnitude, plus, minus}
@@ -31,7 +31,7 @@ use Rattle.laws.proofs.laws.DecibelRange.{ReadRange, twenty-four, value→read,
 use Rattle.rounding.proofs.laws.Narrow.{narrowed-unit}
 use Rattle.decibels.proofs.laws.Decibels.{amplitude-unity}
 use Rattle.level_amplitudes.specs.Amplitudes.{valueAt, amplitudeAt, withAmplitudes}
-use Rattle.chunk.specs.Chunk.{amountAt, levelAmplitude, isSteady, steadyAmplitude, partAt, withFactors, IsParts, LevelInRange}
+use Rattle.chunk.specs.Chunk.{amountAt, levelAmplitude, isSteady, steadyAmplitude, partAt, withFactors, partsOf, LevelInRange}
 
 -- ---- what mixing asks of a chunk
 
@@ -46,11 +46,11 @@ pub record IsPart (part : Float) : Type 0 where
   pub rounded : part ≡ narrowed amount
 
 -- a number of frames is a float
-pub frames-in-float : (n : ℕ) → n ≤ 256 → T (inFloat binary64 (pos n))
+pub frames-in-float : (n : ℕ) → n ≤ chunkFramesMost → T (inFloat binary64 (pos n))
 unfolding inFloat
 frames-in-float n h = le→leb n (2 ^ prec binary64) (le-trans h (lit≤ tt))
 
-pub amount-is : (i n : ℕ) → i < n → n ≤ 256 → IsAmount (amountAt i n)
+pub amount-is : (i n : ℕ) → i < n → n ≤ chunkFramesMost → IsAmount (amountAt i n)
 unfolding amountAt
 amount-is i n h k =
     subst (InUnit binary64)
@@ -61,14 +61,9 @@ limit-is : twenty-four ≡ limit
 unfolding ofInt round
 limit-is = refl
 
-both : (a b : Bool) → T a → T b → T (a && b)
-both true true x y = tt
-both true false x y = absurd y
-both false b x y = absurd x
-
 admitted-read : (x : Float) → ReadRange x → T (admitted x)
 unfolding admitted
-admitted-read x r = both (not (isNan x)) (le x limit) (read-not-nan x r) (subst (λ (y : Float). T (le x y)) limit-is (read-most x r))
+admitted-read x r = both-T (not (isNan x)) (le x limit) (read-not-nan x r) (subst (λ (y : Float). T (le x y)) limit-is (read-most x r))
 
 pub now-admitted : (l : Level) → LevelInRange l → T (admitted (l .now .0))
 now-admitted l h = admitted-read (l .now .0) (value→read (l .now .0) (h .now))
@@ -85,31 +80,31 @@ pub level-admitted : (l : Level) (amount : Float) → LevelInRange l → IsAmoun
 unfolding interpolated
 level-admitted l amount h k = part-admitted l (narrowed amount) h (record { amount = amount; lies = k; rounded = refl })
 
--- what the loop that makes them gives
-pub parts-are : (n : ℕ) (l : List Float) {parts : List Float} → n ≤ 256 → length l ≡ 256 → parts ≡ changed (λ k x. partAt k n) n l → IsParts n parts
-parts-are n l h w e = record {
-  long = ap length e ∙ changed-length (λ k x. partAt k n) n l ∙ w;
-  part = λ i p. ap (λ (r : List Float). getD r i nan) e ∙ changed-below (λ k x. partAt k n) n l i nan p (omega arith);
-}
+-- what stands in the array
+pub parts-at : (n i : ℕ) {parts : List Float} → parts ≡ partsOf n → n ≤ chunkFramesMost → i < n → getD parts i nan ≡ partAt i n
+unfolding partsOf
+parts-at n i e h p =
+    let zeros = replicate chunkFramesMost (ofInt binary32 (pos 0)) in
+    ap (λ (r : List Float). getD r i nan) e ∙ changed-below (λ k x. partAt k n) n zeros i nan p (omega (arith, h, p, length-replicate chunkFramesMost (ofInt binary32 (pos 0))))
 
 -- frame i of a chunk
-module _ (n i : ℕ) (parts : List Float) (P : IsParts n parts) (h : i < n) where
-  pub parts-is : n ≤ 256 → IsPart (getD parts i nan)
+module _ (n i : ℕ) (parts : List Float) (P : parts ≡ partsOf n) (short : n ≤ chunkFramesMost) (h : i < n) where
+  pub parts-is : IsPart (getD parts i nan)
   unfolding partAt
-  parts-is k = record { amount = amountAt i n; lies = amount-is i n h k; rounded = P .part i h }
+  parts-is = record { amount = amountAt i n; lies = amount-is i n h short; rounded = parts-at n i P short h }
 
-  pub parts-admitted : (l : Level) → n ≤ 256 → LevelInRange l → T (admitted (valueAt (l .before) (l .now) parts i))
+  pub parts-admitted : (l : Level) → LevelInRange l → T (admitted (valueAt (l .before) (l .now) parts i))
   unfolding valueAt
-  parts-admitted l k r = part-admitted l (getD parts i nan) r (parts-is k)
+  parts-admitted l r = part-admitted l (getD parts i nan) r parts-is
 
   -- the amplitude at its part is the one at its amount
   parts-amplitude : (l : Level) (x : Float) → amplitudeAt (l .before) (l .now) parts i x ≡ levelAmplitude l (amountAt i n) .0
   unfolding amplitudeAt valueAt levelAmplitude interpolated partAt
-  parts-amplitude l x = ap (λ (part : Float). amplitude (interpolate binary32 (l .before .0) (l .now .0) part)) (P .part i h)
+  parts-amplitude l x = ap (λ (part : Float). amplitude (interpolate binary32 (l .before .0) (l .now .0) part)) (parts-at n i P short h)
 
-pub factors-are : (l : Level) (n : ℕ) (parts factors : List Float) → IsParts n parts → withAmplitudes (l .before) (l .now) parts n factors ≡ withFactors l n factors
-factors-are l n parts factors P =
-    changed-cong (amplitudeAt (l .before) (l .now) parts) (λ i x. levelAmplitude l (amountAt i n) .0) n factors nan (λ k h _. parts-amplitude n k parts P h l (getD factors k nan))
+pub factors-are : (l : Level) (n : ℕ) (parts factors : List Float) → parts ≡ partsOf n → n ≤ chunkFramesMost → withAmplitudes (l .before) (l .now) parts n factors ≡ withFactors l n factors
+factors-are l n parts factors P short =
+    changed-cong (amplitudeAt (l .before) (l .now) parts) (λ i x. levelAmplitude l (amountAt i n) .0) n factors nan (λ k h _. parts-amplitude n k parts P short h l (getD factors k nan))
 
 -- the factor of frame i
 pub factor-at : (l : Level) (n i : ℕ) (before : List Float) {factors : List Float} → i < n → n ≤ length before → factors ≡ withFactors l n before → getD factors i nan ≡ levelAmplitude l (amountAt i n) .0

@@ -1,4 +1,4 @@
--- What stands at each line of a chunk that two flat arrays stand for, and that a chunk's arrays stand for the chunk. Assumes nothing.
+-- What stands at each line of a chunk that flat arrays stand for, and that a chunk's arrays stand for the chunk. Assumes nothing.
 use mathlib.Core.Path.{_≡_, refl, sym, ap, ap₂, _∙_, subst}
 use mathlib.Core.Logic.{⊎-elim}
 use mathlib.Core.Bool.{Bool, true, false}
@@ -10,6 +10,7 @@ use lib.Dec.{eqb}
 use lib.ListN.{length, getD, length-append, List·getD-append}
 use lib.Seq.{getD-append-add, ext-getD}
 use lib.Ieee.{Float, nan}
+use Rattle.limits.specs.Limits.{trackPlaces, sendLines, routeLines, soundLines}
 use Rattle.laws.specs.Pieces.{pieces}
 use Rattle.laws.proofs.laws.Pieces.{pieces-suc, length-pieces, length-elements}
 use Rattle.chunk.specs.declared.chunk.Level.{Level}
@@ -18,7 +19,10 @@ use Rattle.chunk.specs.declared.chunk.ChunkRoute.{ChunkRoute}
 use Rattle.chunk.specs.declared.chunk.ChunkSound.{ChunkSound}
 use Rattle.chunk.specs.declared.chunk.Chunk.{Chunk}
 use Rattle.chunk.specs.Chunk.{ChunkPlaces, absentLevel, absentTrackRow, absentRouteRow, absentSoundRow, trackRow, routeRow, soundRow, sendRow}
-use Rattle.chunk.specs.Flat.{column, levelFrom, trackFrom, sendFrom, routeFrom, soundFrom, chunkFrom, flag, soundPlaces, placesOf, levelValues, valuesOf}
+use Rattle.chunk.specs.Flat.{advancingFrom, routeTracksFrom, routeSendsFrom, soundTracksFrom, soundStartsFrom, soundLeftsFrom}
+use Rattle.chunk.specs.Flat.{framesPlace, trackCountPlace, sendCountPlace, routeCountPlace, soundCountPlace, placesSize}
+use Rattle.chunk.specs.Flat.{levelSize, trackLevels, sendLevelsFrom, mainFrom, levelsSize}
+use Rattle.chunk.specs.Flat.{column, levelFrom, trackFrom, sendFrom, routeFrom, soundFrom, chunkFrom, flag, soundPlaces, placesOf, levelValues, levelsOf, amplitudesOf}
 
 -- ---- elements of pieces and columns
 
@@ -55,32 +59,32 @@ module _ {A : Type 0} where
   unfolding column
   column-at f n k d h = ap (λ (j : ℕ). getD (pieces (λ j. f j ∷ []) n) j d) (omega arith) ∙ pieces-at (λ j. f j ∷ []) 1 (λ i. refl) n k 0 d h (omega arith)
 
--- ---- the lines of the chunk that two arrays stand for
+-- ---- the lines of the chunk that the arrays stand for
 
-module _ (places : List ℕ) (values : List Float) where
-  pub track-from : (j : ℕ) → j < 32 → trackRow (chunkFrom places values) j ≡ trackFrom places values j
-  track-from j h = column-at (trackFrom places values) 32 j absentTrackRow h
+module _ (places : List ℕ) (levels amplitudes : List Float) where
+  pub track-from : (j : ℕ) → j < trackPlaces → trackRow (chunkFrom places levels amplitudes) j ≡ trackFrom places levels j
+  track-from j h = column-at (trackFrom places levels) trackPlaces j absentTrackRow h
 
-  pub send-from : (s : ℕ) → s < 8 → sendRow (chunkFrom places values) s ≡ sendFrom values s
-  send-from s h = column-at (sendFrom values) 8 s absentLevel h
+  pub send-from : (s : ℕ) → s < sendLines → sendRow (chunkFrom places levels amplitudes) s ≡ sendFrom levels s
+  send-from s h = column-at (sendFrom levels) sendLines s absentLevel h
 
-  pub route-from : (r : ℕ) → r < 64 → routeRow (chunkFrom places values) r ≡ routeFrom places values r
-  route-from r h = column-at (routeFrom places values) 64 r absentRouteRow h
+  pub route-from : (r : ℕ) → r < routeLines → routeRow (chunkFrom places levels amplitudes) r ≡ routeFrom places amplitudes r
+  route-from r h = column-at (routeFrom places amplitudes) routeLines r absentRouteRow h
 
-  pub sound-from : (k : ℕ) → k < 64 → soundRow (chunkFrom places values) k ≡ soundFrom places k
-  sound-from k h = column-at (soundFrom places) 64 k absentSoundRow h
+  pub sound-from : (k : ℕ) → k < soundLines → soundRow (chunkFrom places levels amplitudes) k ≡ soundFrom places k
+  sound-from k h = column-at (soundFrom places) soundLines k absentSoundRow h
 
 trackWith : ℕ → Bool → Level → Level → ChunkTrack
 trackWith parent advancing volume fade = record { parent = parent; advancing = advancing; volume = volume; fade = fade }
 
 -- a track's line by its two levels
-pub track-read : (places : List ℕ) (values : List Float) (j : ℕ) (a b : Level) → j < 32 → a ≡ levelFrom values (4 * j) → b ≡ levelFrom values (4 * j + 2) → record { parent = getD places j 0; advancing = eqb (getD places (32 + j) 0) 1; volume = a; fade = b } ≡ trackRow (chunkFrom places values) j
+pub track-read : (places : List ℕ) (levels amplitudes : List Float) (j : ℕ) (a b : Level) → j < trackPlaces → a ≡ levelFrom levels (trackLevels * j) → b ≡ levelFrom levels (trackLevels * j + levelSize) → record { parent = getD places j 0; advancing = eqb (getD places (advancingFrom + j) 0) 1; volume = a; fade = b } ≡ trackRow (chunkFrom places levels amplitudes) j
 unfolding trackFrom trackWith
-track-read places values j a b h p q = ap₂ (trackWith (getD places j 0) (eqb (getD places (32 + j) 0) 1)) p q ∙ sym (track-from places values j h)
+track-read places levels amplitudes j a b h p q = ap₂ (trackWith (getD places j 0) (eqb (getD places (advancingFrom + j) 0) 1)) p q ∙ sym (track-from places levels amplitudes j h)
 
-pub send-read : (places : List ℕ) (values : List Float) (s : ℕ) {a : Level} → s < 8 → a ≡ levelFrom values (128 + 2 * s) → a ≡ sendRow (chunkFrom places values) s
+pub send-read : (places : List ℕ) (levels amplitudes : List Float) (s : ℕ) {a : Level} → s < sendLines → a ≡ levelFrom levels (sendLevelsFrom + levelSize * s) → a ≡ sendRow (chunkFrom places levels amplitudes) s
 unfolding sendFrom
-send-read places values s h e = e ∙ sym (send-from places values s h)
+send-read places levels amplitudes s h e = e ∙ sym (send-from places levels amplitudes s h)
 
 -- ---- what stands in the arrays of a chunk
 
@@ -102,88 +106,100 @@ module _ (c : Chunk) where
   place : (i k : ℕ) → i ≡ k → getD (placesOf c) i 0 ≡ getD (placesOf c) k 0
   place i k e = ap (λ (i : ℕ). getD (placesOf c) i 0) e
 
-  value : (i k : ℕ) → i ≡ k → getD (valuesOf c) i nan ≡ getD (valuesOf c) k nan
-  value i k e = ap (λ (i : ℕ). getD (valuesOf c) i nan) e
+  value : (i k : ℕ) → i ≡ k → getD (levelsOf c) i nan ≡ getD (levelsOf c) k nan
+  value i k e = ap (λ (i : ℕ). getD (levelsOf c) i nan) e
 
-  pub place-parent : (j : ℕ) → j < 32 → getD (placesOf c) j 0 ≡ trackRow c j .parent
+  pub place-parent : (j : ℕ) → j < trackPlaces → getD (placesOf c) j 0 ≡ trackRow c j .parent
   unfolding placesOf
-  place-parent j h = column-here _ 32 _ j 0 h
+  place-parent j h = column-here _ trackPlaces _ j 0 h
 
-  pub place-advancing : (j : ℕ) → j < 32 → getD (placesOf c) (32 + j) 0 ≡ flag (trackRow c j .advancing)
+  pub place-advancing : (j : ℕ) → j < trackPlaces → getD (placesOf c) (advancingFrom + j) 0 ≡ flag (trackRow c j .advancing)
   unfolding placesOf
-  place-advancing j h = column-past _ 32 _ j 0 ∙ column-here _ 32 _ j 0 h
+  place-advancing j h = column-past _ trackPlaces _ j 0 ∙ column-here _ trackPlaces _ j 0 h
 
-  past-tracks : (k : ℕ) → getD (placesOf c) (64 + k) 0 ≡ getD (column (λ r. routeRow c r .track) 64 ++ (column (λ r. routeRow c r .send) 64 ++ soundPlaces c)) k 0
+  past-tracks : (k : ℕ) → getD (placesOf c) (routeTracksFrom + k) 0 ≡ getD (column (λ r. routeRow c r .track) routeLines ++ (column (λ r. routeRow c r .send) routeLines ++ soundPlaces c)) k 0
   unfolding placesOf soundPlaces
-  past-tracks k = place (64 + k) (32 + (32 + k)) (omega arith) ∙ column-past _ 32 _ (32 + k) 0 ∙ column-past _ 32 _ k 0
+  past-tracks k = place (routeTracksFrom + k) (trackPlaces + (trackPlaces + k)) (omega arith) ∙ column-past _ trackPlaces _ (trackPlaces + k) 0 ∙ column-past _ trackPlaces _ k 0
 
-  pub place-route-track : (r : ℕ) → r < 64 → getD (placesOf c) (64 + r) 0 ≡ routeRow c r .track
-  place-route-track r h = past-tracks r ∙ column-here _ 64 _ r 0 h
+  pub place-route-track : (r : ℕ) → r < routeLines → getD (placesOf c) (routeTracksFrom + r) 0 ≡ routeRow c r .track
+  place-route-track r h = past-tracks r ∙ column-here _ routeLines _ r 0 h
 
-  pub place-route-send : (r : ℕ) → r < 64 → getD (placesOf c) (128 + r) 0 ≡ routeRow c r .send
-  place-route-send r h = place (128 + r) (64 + (64 + r)) (omega arith) ∙ past-tracks (64 + r) ∙ column-past _ 64 _ r 0 ∙ column-here _ 64 _ r 0 h
+  pub place-route-send : (r : ℕ) → r < routeLines → getD (placesOf c) (routeSendsFrom + r) 0 ≡ routeRow c r .send
+  place-route-send r h = place (routeSendsFrom + r) (routeTracksFrom + (routeLines + r)) (omega arith) ∙ past-tracks (routeLines + r) ∙ column-past _ routeLines _ r 0 ∙ column-here _ routeLines _ r 0 h
 
-  past-routes : (k : ℕ) → getD (placesOf c) (192 + k) 0 ≡ getD (soundPlaces c) k 0
-  past-routes k = place (192 + k) (64 + (64 + (64 + k))) (omega arith) ∙ past-tracks (64 + (64 + k)) ∙ column-past _ 64 _ (64 + k) 0 ∙ column-past _ 64 _ k 0
+  past-routes : (k : ℕ) → getD (placesOf c) (soundTracksFrom + k) 0 ≡ getD (soundPlaces c) k 0
+  past-routes k =
+      place (soundTracksFrom + k) (routeTracksFrom + (routeLines + (routeLines + k))) (omega arith)
+      ∙ past-tracks (routeLines + (routeLines + k))
+      ∙ column-past _ routeLines _ (routeLines + k) 0
+      ∙ column-past _ routeLines _ k 0
 
-  pub place-sound-track : (k : ℕ) → k < 64 → getD (placesOf c) (192 + k) 0 ≡ soundRow c k .track
+  pub place-sound-track : (k : ℕ) → k < soundLines → getD (placesOf c) (soundTracksFrom + k) 0 ≡ soundRow c k .track
   unfolding soundPlaces
-  place-sound-track k h = past-routes k ∙ column-here _ 64 _ k 0 h
+  place-sound-track k h = past-routes k ∙ column-here _ soundLines _ k 0 h
 
-  pub place-sound-start : (k : ℕ) → k < 64 → getD (placesOf c) (256 + k) 0 ≡ soundRow c k .start
+  pub place-sound-start : (k : ℕ) → k < soundLines → getD (placesOf c) (soundStartsFrom + k) 0 ≡ soundRow c k .start
   unfolding soundPlaces
-  place-sound-start k h = place (256 + k) (192 + (64 + k)) (omega arith) ∙ past-routes (64 + k) ∙ column-past _ 64 _ k 0 ∙ column-here _ 64 _ k 0 h
+  place-sound-start k h = place (soundStartsFrom + k) (soundTracksFrom + (soundLines + k)) (omega arith) ∙ past-routes (soundLines + k) ∙ column-past _ soundLines _ k 0 ∙ column-here _ soundLines _ k 0 h
 
-  pub place-sound-left : (k : ℕ) → k < 64 → getD (placesOf c) (320 + k) 0 ≡ soundRow c k .left
+  pub place-sound-left : (k : ℕ) → k < soundLines → getD (placesOf c) (soundLeftsFrom + k) 0 ≡ soundRow c k .left
   unfolding soundPlaces
-  place-sound-left k h = place (320 + k) (192 + (64 + (64 + k))) (omega arith) ∙ past-routes (64 + (64 + k)) ∙ column-past _ 64 _ (64 + k) 0 ∙ column-past _ 64 _ k 0 ∙ column-here _ 64 _ k 0 h
+  place-sound-left k h =
+      place (soundLeftsFrom + k) (soundTracksFrom + (soundLines + (soundLines + k))) (omega arith)
+      ∙ past-routes (soundLines + (soundLines + k))
+      ∙ column-past _ soundLines _ (soundLines + k) 0
+      ∙ column-past _ soundLines _ k 0
+      ∙ column-here _ soundLines _ k 0 h
 
   -- frames, and the counts
-  pub place-count : (k i : ℕ) → i ≡ 384 + k → getD (placesOf c) i 0 ≡ getD (c .frames ∷ c .«track_count» ∷ c .«send_count» ∷ c .«route_count» ∷ c .«sound_count» ∷ []) k 0
+  pub place-count : (k i : ℕ) → i ≡ framesPlace + k → getD (placesOf c) i 0 ≡ getD (c .frames ∷ c .«track_count» ∷ c .«send_count» ∷ c .«route_count» ∷ c .«sound_count» ∷ []) k 0
   unfolding soundPlaces
   place-count k i e =
-      place i (192 + (64 + (64 + (64 + k)))) (omega arith)
-      ∙ past-routes (64 + (64 + (64 + k)))
-      ∙ column-past _ 64 _ (64 + (64 + k)) 0
-      ∙ column-past _ 64 _ (64 + k) 0
-      ∙ column-past _ 64 _ k 0
+      place i (soundTracksFrom + (soundLines + (soundLines + (soundLines + k)))) (omega arith)
+      ∙ past-routes (soundLines + (soundLines + (soundLines + k)))
+      ∙ column-past _ soundLines _ (soundLines + (soundLines + k)) 0
+      ∙ column-past _ soundLines _ (soundLines + k) 0
+      ∙ column-past _ soundLines _ k 0
 
-  pub value-track : (j k i : ℕ) → j < 32 → k < 4 → i ≡ 4 * j + k → getD (valuesOf c) i nan ≡ getD (levelValues (trackRow c j .volume) ++ levelValues (trackRow c j .fade)) k nan
-  unfolding valuesOf
-  value-track j k i h b e = value i (j * 4 + k) (omega arith) ∙ pieces-here _ 4 32 (λ i. refl) _ nan j k h b
+  pub level-track : (j k i : ℕ) → j < trackPlaces → k < trackLevels → i ≡ trackLevels * j + k → getD (levelsOf c) i nan ≡ getD (levelValues (trackRow c j .volume) ++ levelValues (trackRow c j .fade)) k nan
+  unfolding levelsOf
+  level-track j k i h b e = value i (j * trackLevels + k) (omega arith) ∙ pieces-here _ trackLevels trackPlaces (λ i. refl) _ nan j k h b
 
-  pub value-send : (s k i : ℕ) → s < 8 → k < 2 → i ≡ 128 + 2 * s + k → getD (valuesOf c) i nan ≡ getD (levelValues (sendRow c s)) k nan
-  unfolding valuesOf
-  value-send s k i h b e = value i (128 + (s * 2 + k)) (omega arith) ∙ pieces-past _ 4 32 (λ i. refl) _ nan (s * 2 + k) ∙ pieces-here _ 2 8 (λ i. refl) _ nan s k h b
+  pub level-send : (s k i : ℕ) → s < sendLines → k < levelSize → i ≡ sendLevelsFrom + levelSize * s + k → getD (levelsOf c) i nan ≡ getD (levelValues (sendRow c s)) k nan
+  unfolding levelsOf
+  level-send s k i h b e = value i (trackPlaces * trackLevels + (s * levelSize + k)) (omega arith) ∙ pieces-past _ trackLevels trackPlaces (λ i. refl) _ nan (s * levelSize + k) ∙ pieces-here _ levelSize sendLines (λ i. refl) _ nan s k h b
 
-  pub value-amplitude : (r : ℕ) → r < 64 → getD (valuesOf c) (144 + r) nan ≡ routeRow c r .amplitude .0
-  unfolding valuesOf
-  value-amplitude r h = value (144 + r) (128 + (16 + r)) (omega arith) ∙ pieces-past _ 4 32 (λ i. refl) _ nan (16 + r) ∙ pieces-past _ 2 8 (λ i. refl) _ nan r ∙ column-here _ 64 _ r nan h
+  pub amplitude-route : (r : ℕ) → r < routeLines → getD (amplitudesOf c) r nan ≡ routeRow c r .amplitude .0
+  unfolding amplitudesOf
+  amplitude-route r h = column-at _ routeLines r nan h
 
-  pub value-main : (k i : ℕ) → i ≡ 208 + k → getD (valuesOf c) i nan ≡ getD (levelValues (c .main)) k nan
-  unfolding valuesOf
-  value-main k i e =
-      value i (128 + (16 + (64 + k))) (omega arith)
-      ∙ pieces-past _ 4 32 (λ i. refl) _ nan (16 + (64 + k))
-      ∙ pieces-past _ 2 8 (λ i. refl) _ nan (64 + k)
-      ∙ column-past _ 64 _ k nan
+  pub level-main : (k i : ℕ) → i ≡ mainFrom + k → getD (levelsOf c) i nan ≡ getD (levelValues (c .main)) k nan
+  unfolding levelsOf
+  level-main k i e =
+      value i (trackPlaces * trackLevels + (sendLines * levelSize + k)) (omega arith)
+      ∙ pieces-past _ trackLevels trackPlaces (λ i. refl) _ nan (sendLines * levelSize + k)
+      ∙ pieces-past _ levelSize sendLines (λ i. refl) _ nan k
 
-  pub places-length : length (placesOf c) ≡ 389
+  pub places-length : length (placesOf c) ≡ placesSize
   unfolding placesOf soundPlaces
   places-length = simp (length-append, length-column)
 
-  pub values-length : length (valuesOf c) ≡ 210
-  unfolding valuesOf
-  values-length =
-      let tracks = length-pieces (λ j. levelValues (trackRow c j .volume) ++ levelValues (trackRow c j .fade)) 4 32 (λ i h. refl) in
-      let sends = length-pieces (λ s. levelValues (sendRow c s)) 2 8 (λ i h. refl) in
-      simp (length-append, length-column, tracks, sends)
+  pub levels-length : length (levelsOf c) ≡ levelsSize
+  unfolding levelsOf
+  levels-length =
+      let tracks = length-pieces (λ j. levelValues (trackRow c j .volume) ++ levelValues (trackRow c j .fade)) trackLevels trackPlaces (λ i h. refl) in
+      let sends = length-pieces (λ s. levelValues (sendRow c s)) levelSize sendLines (λ i h. refl) in
+      simp (length-append, tracks, sends)
+
+  pub amplitudes-length : length (amplitudesOf c) ≡ routeLines
+  unfolding amplitudesOf
+  amplitudes-length = length-column _ routeLines
 
 -- ---- a chunk's arrays stand for the chunk
 
-level-is : (values : List Float) (i : ℕ) (l : Level) → getD values i nan ≡ l .before .0 → getD values (i + 1) nan ≡ l .now .0 → levelFrom values i ≡ l
+level-is : (levels : List Float) (i : ℕ) (l : Level) → getD levels i nan ≡ l .before .0 → getD levels (i + 1) nan ≡ l .now .0 → levelFrom levels i ≡ l
 unfolding levelFrom
-level-is values i l p q = ap₂ (λ (x y : Float). record { before = record { 0 = x }; now = record { 0 = y } }) p q
+level-is levels i l p q = ap₂ (λ (x y : Float). record { before = record { 0 = x }; now = record { 0 = y } }) p q
 
 flag-is : (b : Bool) → eqb (flag b) 1 ≡ b
 unfolding flag
@@ -211,48 +227,48 @@ chunkWith frames tc tracks sc sends rc routes kc sounds main =
     }
 
 module _ (c : Chunk) where
-  track-flat : (j : ℕ) → j < 32 → trackFrom (placesOf c) (valuesOf c) j ≡ trackRow c j
+  track-flat : (j : ℕ) → j < trackPlaces → trackFrom (placesOf c) (levelsOf c) j ≡ trackRow c j
   unfolding trackFrom trackWith
   track-flat j h =
       let t : ChunkTrack = trackRow c j in
-      let volume : levelFrom (valuesOf c) (4 * j) ≡ t .volume = level-is (valuesOf c) (4 * j) (t .volume) (value-track c j 0 (4 * j) h (omega arith) (omega arith)) (value-track c j 1 (4 * j + 1) h (omega arith) (omega arith)) in
-      let fade : levelFrom (valuesOf c) (4 * j + 2) ≡ t .fade = level-is (valuesOf c) (4 * j + 2) (t .fade) (value-track c j 2 (4 * j + 2) h (omega arith) (omega arith)) (value-track c j 3 (4 * j + 2 + 1) h (omega arith) (omega arith)) in
-      ap₂ (λ (p : ℕ) (b : Bool). trackWith p b (levelFrom (valuesOf c) (4 * j)) (levelFrom (valuesOf c) (4 * j + 2))) (place-parent c j h) (ap (λ (n : ℕ). eqb n 1) (place-advancing c j h) ∙ flag-is (t .advancing))
+      let volume : levelFrom (levelsOf c) (trackLevels * j) ≡ t .volume = level-is (levelsOf c) (trackLevels * j) (t .volume) (level-track c j 0 (trackLevels * j) h (omega arith) (omega arith)) (level-track c j 1 (trackLevels * j + 1) h (omega arith) (omega arith)) in
+      let fade : levelFrom (levelsOf c) (trackLevels * j + levelSize) ≡ t .fade = level-is (levelsOf c) (trackLevels * j + levelSize) (t .fade) (level-track c j 2 (trackLevels * j + levelSize) h (omega arith) (omega arith)) (level-track c j 3 (trackLevels * j + levelSize + 1) h (omega arith) (omega arith)) in
+      ap₂ (λ (p : ℕ) (b : Bool). trackWith p b (levelFrom (levelsOf c) (trackLevels * j)) (levelFrom (levelsOf c) (trackLevels * j + levelSize))) (place-parent c j h) (ap (λ (n : ℕ). eqb n 1) (place-advancing c j h) ∙ flag-is (t .advancing))
       ∙ ap₂ (trackWith (t .parent) (t .advancing)) volume fade
 
-  send-flat : (s : ℕ) → s < 8 → sendFrom (valuesOf c) s ≡ sendRow c s
+  send-flat : (s : ℕ) → s < sendLines → sendFrom (levelsOf c) s ≡ sendRow c s
   unfolding sendFrom
-  send-flat s h = level-is (valuesOf c) (128 + 2 * s) (sendRow c s) (value-send c s 0 (128 + 2 * s) h (omega arith) (omega arith)) (value-send c s 1 (128 + 2 * s + 1) h (omega arith) (omega arith))
+  send-flat s h = level-is (levelsOf c) (sendLevelsFrom + levelSize * s) (sendRow c s) (level-send c s 0 (sendLevelsFrom + levelSize * s) h (omega arith) (omega arith)) (level-send c s 1 (sendLevelsFrom + levelSize * s + 1) h (omega arith) (omega arith))
 
-  route-flat : (r : ℕ) → r < 64 → routeFrom (placesOf c) (valuesOf c) r ≡ routeRow c r
+  route-flat : (r : ℕ) → r < routeLines → routeFrom (placesOf c) (amplitudesOf c) r ≡ routeRow c r
   unfolding routeFrom
   route-flat r h =
-      ap₂ (λ (x y : ℕ). record { track = x; send = y; amplitude = record { 0 = getD (valuesOf c) (144 + r) nan } }) (place-route-track c r h) (place-route-send c r h)
-      ∙ ap (λ (x : Float). record { track = routeRow c r .track; send = routeRow c r .send; amplitude = record { 0 = x } }) (value-amplitude c r h)
+      ap₂ (λ (x y : ℕ). record { track = x; send = y; amplitude = record { 0 = getD (amplitudesOf c) r nan } }) (place-route-track c r h) (place-route-send c r h)
+      ∙ ap (λ (x : Float). record { track = routeRow c r .track; send = routeRow c r .send; amplitude = record { 0 = x } }) (amplitude-route c r h)
 
-  sound-flat : (k : ℕ) → k < 64 → soundFrom (placesOf c) k ≡ soundRow c k
+  sound-flat : (k : ℕ) → k < soundLines → soundFrom (placesOf c) k ≡ soundRow c k
   unfolding soundFrom
   sound-flat k h =
-      ap₂ (λ (x y : ℕ). record { track = x; start = y; left = getD (placesOf c) (320 + k) 0 }) (place-sound-track c k h) (place-sound-start c k h)
+      ap₂ (λ (x y : ℕ). record { track = x; start = y; left = getD (placesOf c) (soundLeftsFrom + k) 0 }) (place-sound-track c k h) (place-sound-start c k h)
       ∙ ap (λ (x : ℕ). record { track = soundRow c k .track; start = soundRow c k .start; left = x }) (place-sound-left c k h)
 
-  with-same : ChunkPlaces c → chunkWith (getD (placesOf c) 384 0) (getD (placesOf c) 385 0) (column (trackFrom (placesOf c) (valuesOf c)) 32) (getD (placesOf c) 386 0) (column (sendFrom (valuesOf c)) 8) (getD (placesOf c) 387 0) (column (routeFrom (placesOf c) (valuesOf c)) 64) (getD (placesOf c) 388 0) (column (soundFrom (placesOf c)) 64) (levelFrom (valuesOf c) 208) ≡ chunkWith (c .frames) (c .«track_count») (c .tracks) (c .«send_count») (c .sends) (c .«route_count») (c .routes) (c .«sound_count») (c .sounds) (c .main)
+  with-same : ChunkPlaces c → chunkWith (getD (placesOf c) framesPlace 0) (getD (placesOf c) trackCountPlace 0) (column (trackFrom (placesOf c) (levelsOf c)) trackPlaces) (getD (placesOf c) sendCountPlace 0) (column (sendFrom (levelsOf c)) sendLines) (getD (placesOf c) routeCountPlace 0) (column (routeFrom (placesOf c) (amplitudesOf c)) routeLines) (getD (placesOf c) soundCountPlace 0) (column (soundFrom (placesOf c)) soundLines) (levelFrom (levelsOf c) mainFrom) ≡ chunkWith (c .frames) (c .«track_count») (c .tracks) (c .«send_count») (c .sends) (c .«route_count») (c .routes) (c .«sound_count») (c .sounds) (c .main)
   with-same h =
-      let frames : getD (placesOf c) 384 0 ≡ c .frames = place-count c 0 384 refl in
-      let tracks : getD (placesOf c) 385 0 ≡ c .«track_count» = place-count c 1 385 refl in
-      let sends : getD (placesOf c) 386 0 ≡ c .«send_count» = place-count c 2 386 refl in
-      let routes : getD (placesOf c) 387 0 ≡ c .«route_count» = place-count c 3 387 refl in
-      let sounds : getD (placesOf c) 388 0 ≡ c .«sound_count» = place-count c 4 388 refl in
-      let track-lines : column (trackFrom (placesOf c) (valuesOf c)) 32 ≡ c .tracks = column-is (trackFrom (placesOf c) (valuesOf c)) 32 (c .tracks) absentTrackRow (h .tracks) track-flat in
-      let send-lines : column (sendFrom (valuesOf c)) 8 ≡ c .sends = column-is (sendFrom (valuesOf c)) 8 (c .sends) absentLevel (h .sends) send-flat in
-      let route-lines : column (routeFrom (placesOf c) (valuesOf c)) 64 ≡ c .routes = column-is (routeFrom (placesOf c) (valuesOf c)) 64 (c .routes) absentRouteRow (h .routes) route-flat in
-      let sound-lines : column (soundFrom (placesOf c)) 64 ≡ c .sounds = column-is (soundFrom (placesOf c)) 64 (c .sounds) absentSoundRow (h .sounds) sound-flat in
-      let main : levelFrom (valuesOf c) 208 ≡ c .main = level-is (valuesOf c) 208 (c .main) (value-main c 0 208 refl) (value-main c 1 209 refl) in
+      let frames : getD (placesOf c) framesPlace 0 ≡ c .frames = place-count c 0 framesPlace refl in
+      let tracks : getD (placesOf c) trackCountPlace 0 ≡ c .«track_count» = place-count c 1 trackCountPlace refl in
+      let sends : getD (placesOf c) sendCountPlace 0 ≡ c .«send_count» = place-count c 2 sendCountPlace refl in
+      let routes : getD (placesOf c) routeCountPlace 0 ≡ c .«route_count» = place-count c 3 routeCountPlace refl in
+      let sounds : getD (placesOf c) soundCountPlace 0 ≡ c .«sound_count» = place-count c 4 soundCountPlace refl in
+      let track-lines : column (trackFrom (placesOf c) (levelsOf c)) trackPlaces ≡ c .tracks = column-is (trackFrom (placesOf c) (levelsOf c)) trackPlaces (c .tracks) absentTrackRow (h .tracks) track-flat in
+      let send-lines : column (sendFrom (levelsOf c)) sendLines ≡ c .sends = column-is (sendFrom (levelsOf c)) sendLines (c .sends) absentLevel (h .sends) send-flat in
+      let route-lines : column (routeFrom (placesOf c) (amplitudesOf c)) routeLines ≡ c .routes = column-is (routeFrom (placesOf c) (amplitudesOf c)) routeLines (c .routes) absentRouteRow (h .routes) route-flat in
+      let sound-lines : column (soundFrom (placesOf c)) soundLines ≡ c .sounds = column-is (soundFrom (placesOf c)) soundLines (c .sounds) absentSoundRow (h .sounds) sound-flat in
+      let main : levelFrom (levelsOf c) mainFrom ≡ c .main = level-is (levelsOf c) mainFrom (c .main) (level-main c 0 mainFrom refl) (level-main c 1 (mainFrom + 1) refl) in
       cc
 
-  pub chunk-flat : ChunkPlaces c → chunkFrom (placesOf c) (valuesOf c) ≡ c
+  pub chunk-flat : ChunkPlaces c → chunkFrom (placesOf c) (levelsOf c) (amplitudesOf c) ≡ c
   unfolding chunkWith
   chunk-flat h = with-same h
 
-  pub chunk-from : {places : List ℕ} {values : List Float} → places ≡ placesOf c → values ≡ valuesOf c → ChunkPlaces c → chunkFrom places values ≡ c
-  chunk-from p q h = ap₂ chunkFrom p q ∙ chunk-flat h
+  pub chunk-from : {places : List ℕ} {levels amplitudes : List Float} → places ≡ placesOf c → levels ≡ levelsOf c → amplitudes ≡ amplitudesOf c → ChunkPlaces c → chunkFrom places levels amplitudes ≡ c
+  chunk-from p q r h = rw (p, q, r) (chunk-flat h)

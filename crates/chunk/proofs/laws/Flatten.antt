@@ -1,13 +1,15 @@
 -- A chunk's arrays are written once each of their stretches is. Assumes nothing.
 use mathlib.Core.Path.{_≡_, refl, sym}
 use mathlib.Core.List.{List}
-use Prim.Native.Nat.{ℕ, _+_}
+use Prim.Native.Nat.{ℕ, _+_, _*_}
 use native.Mathlib.Omega.{arith}
 use lib.ListN.{length, set}
 use lib.Ieee.{Float, nan}
 use Rattle.chunk.specs.declared.chunk.Chunk.{Chunk}
-use Rattle.chunk.specs.Flat.{placesOf, valuesOf}
-use Rattle.chunk.proofs.laws.Flat.{place-count, value-main, places-length, values-length}
+use Rattle.limits.specs.Limits.{trackPlaces, sendLines, routeLines, soundLines}
+use Rattle.chunk.specs.Flat.{routeTracksFrom, soundTracksFrom, framesPlace, trackCountPlace, sendCountPlace, routeCountPlace, soundCountPlace, placesSize}
+use Rattle.chunk.specs.Flat.{levelSize, trackLevels, sendLevelsFrom, mainFrom, levelsSize, placesOf, levelsOf, amplitudesOf}
+use Rattle.chunk.proofs.laws.Flat.{place-count, level-main, places-length, levels-length, amplitudes-length}
 use Rattle.chunk.specs.Written.{Written}
 use Rattle.chunk.proofs.laws.Written.{written-next, written-two, written-then, written-after, written-join, written-all}
 
@@ -16,16 +18,19 @@ next-stretch : {A : Type 0} {d : A} {t : List A} {n o′ n′ : ℕ} {l m r : Li
 next-stretch u v e = written-join (written-then u v) (written-after u v) e
 
 module _ (c : Chunk) where
-  pub places-done : {p q r s : List ℕ} → length p ≡ 389 → Written 0 (placesOf c) 0 64 p q → Written 0 (placesOf c) 64 128 q r → Written 0 (placesOf c) 192 192 r s → set (set (set (set (set s 384 (c .frames)) 385 (c .«track_count»)) 386 (c .«send_count»)) 387 (c .«route_count»)) 388 (c .«sound_count») ≡ placesOf c
+  pub places-done : {p q r s : List ℕ} → length p ≡ placesSize → Written 0 (placesOf c) 0 (2 * trackPlaces) p q → Written 0 (placesOf c) routeTracksFrom (2 * routeLines) q r → Written 0 (placesOf c) soundTracksFrom (3 * soundLines) r s → set (set (set (set (set s framesPlace (c .frames)) trackCountPlace (c .«track_count»)) sendCountPlace (c .«send_count»)) routeCountPlace (c .«route_count»)) soundCountPlace (c .«sound_count») ≡ placesOf c
   places-done h tracks routes sounds =
       let w = next-stretch (next-stretch tracks routes refl) sounds refl in
-      let w0 = written-next 384 (c .frames) w refl (omega (arith, h)) (sym (place-count c 0 384 refl)) in
-      let w1 = written-next 385 (c .«track_count») w0 refl (omega (arith, h)) (sym (place-count c 1 385 refl)) in
-      let w2 = written-next 386 (c .«send_count») w1 refl (omega (arith, h)) (sym (place-count c 2 386 refl)) in
-      let w3 = written-next 387 (c .«route_count») w2 refl (omega (arith, h)) (sym (place-count c 3 387 refl)) in
-      written-all (written-next 388 (c .«sound_count») w3 refl (omega (arith, h)) (sym (place-count c 4 388 refl))) (places-length c) h
+      let w0 = written-next framesPlace (c .frames) w refl (omega (arith, h)) (sym (place-count c 0 framesPlace refl)) in
+      let w1 = written-next trackCountPlace (c .«track_count») w0 refl (omega (arith, h)) (sym (place-count c 1 trackCountPlace refl)) in
+      let w2 = written-next sendCountPlace (c .«send_count») w1 refl (omega (arith, h)) (sym (place-count c 2 sendCountPlace refl)) in
+      let w3 = written-next routeCountPlace (c .«route_count») w2 refl (omega (arith, h)) (sym (place-count c 3 routeCountPlace refl)) in
+      written-all (written-next soundCountPlace (c .«sound_count») w3 refl (omega (arith, h)) (sym (place-count c 4 soundCountPlace refl))) (places-length c) h
 
-  pub values-done : {p q r s v : List Float} → length p ≡ 210 → Written nan (valuesOf c) 0 128 p q → Written nan (valuesOf c) 128 16 q r → Written nan (valuesOf c) 144 64 r s → v ≡ set (set s 208 (c .main .before .0)) 209 (c .main .now .0) → v ≡ valuesOf c
-  values-done h tracks sends routes e =
-      let w = next-stretch (next-stretch tracks sends refl) routes refl in
-      written-all (written-two 208 210 (c .main .before .0) (c .main .now .0) w refl refl (omega (arith, h)) (sym (value-main c 0 208 refl)) (sym (value-main c 1 209 refl)) e) (values-length c) h
+  pub levels-done : {p q r v : List Float} → length p ≡ levelsSize → Written nan (levelsOf c) 0 (trackPlaces * trackLevels) p q → Written nan (levelsOf c) sendLevelsFrom (sendLines * levelSize) q r → v ≡ set (set r mainFrom (c .main .before .0)) (mainFrom + 1) (c .main .now .0) → v ≡ levelsOf c
+  levels-done h tracks sends e =
+      let w = next-stretch tracks sends refl in
+      written-all (written-two mainFrom levelsSize (c .main .before .0) (c .main .now .0) w refl refl (omega (arith, h)) (sym (level-main c 0 mainFrom refl)) (sym (level-main c 1 (mainFrom + 1) refl)) e) (levels-length c) h
+
+  pub amplitudes-done : {p q : List Float} → length p ≡ routeLines → Written nan (amplitudesOf c) 0 routeLines p q → q ≡ amplitudesOf c
+  amplitudes-done h routes = written-all routes (amplitudes-length c) h

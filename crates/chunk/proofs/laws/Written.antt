@@ -1,22 +1,15 @@
 -- An array that is written piece by piece towards another: what agrees with the other never stops doing so. Assumes nothing.
 use mathlib.Core.Path.{_≡_, refl, sym, ap, _∙_, subst}
 use mathlib.Core.Logic.{⊎-elim}
-use mathlib.Core.List.{List, [], _∷_}
-use Prim.Native.Nat.{ℕ, zero, suc, _+_, _-_, _≤_, _<_}
+use mathlib.Core.List.{List}
+use Prim.Native.Nat.{ℕ, _+_, _-_, _≤_, _<_}
 use native.Mathlib.Nat.{not-suc-le-zero}
 use native.Mathlib.Omega.{arith}
 use lib.ListN.{length, getD, set, length-set}
 use lib.Seq.{getD-set-same, ext-getD}
 use Rattle.laws.proofs.laws.FloatRound.{below-or-not}
+use Rattle.laws.proofs.laws.Sets.{set-line}
 use Rattle.chunk.specs.Written.{Written}
-
--- what holds of a line and of what is stored holds of the line after the store
-pub set-line : {A : Type 0} (P : A → Type 0) (l : List A) (i j : ℕ) (x d : A) → P (getD l j d) → (i ≡ j → P x) → P (getD (set l i x) j d)
-set-line P [] i j x d p h = p
-set-line P (y ∷ l) zero zero x d p h = h refl
-set-line P (y ∷ l) zero (suc j) x d p h = p
-set-line P (y ∷ l) (suc i) zero x d p h = p
-set-line P (y ∷ l) (suc i) (suc j) x d p h = set-line P l i j x d p (λ e. h (ap suc e))
 
 near-set : {A : Type 0} (t m : List A) (p k : ℕ) (x d : A) → x ≡ getD t p d → getD m k d ≡ getD t k d → getD (set m p x) k d ≡ getD t k d
 near-set {A} t m p k x d is e = set-line (λ (y : A). y ≡ getD t k d) m p k x d e (λ q. is ∙ ap (λ (i : ℕ). getD t i d) q)

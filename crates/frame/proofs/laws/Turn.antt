@@ -1,64 +1,76 @@
--- Loops over a table whose turns are steps on the frames of a buffer. `turns g n` is such a turn; the loop's invariant is that of `downto` or `upto`
--- (`laws`, Loop) with it, and the laws named `-done` take the last turn to a loop at each frame. Assumes nothing.
-use mathlib.Core.Path.{_≡_, refl, ap, _∙_}
-use mathlib.Core.Bool.{Bool, true, false, cond}
+-- Loops over a table whose turns are steps on the frames of a buffer. `turns` is such a turn; the loop's invariant is that of `downto` or `upto`
+-- (`laws`, Loop) with it, and the laws named `-done` take the last turn to a loop at each frame. Frames have an index I: a number in one chunk's
+-- frames, a send track and a number in a buffer of several. Assumes nothing.
+use mathlib.Core.Path.{_≡_, refl, sym, ap, _∙_, subst}
+use mathlib.Core.Bool.{Bool, cond}
 use mathlib.Core.List.{List}
-use Prim.Native.Nat.{ℕ, zero, suc, _+_, _-_, _<_}
+use Prim.Native.Nat.{ℕ, zero, suc, _+_, _-_, _*_, _≤_, _<_}
+use native.Mathlib.Nat.{le-refl}
+use borrow.Author.Tests.{eq-eqb, ne-eqb}
 use lib.Dec.{eqb}
 use lib.ListN.{length}
 use lib.Ieee.{Float}
 use Rattle.laws.specs.Loop.{upto, downto}
 use Rattle.laws.proofs.laws.Loop.{downto-turn, downto-end, upto-turn, upto-end}
 use Rattle.frame.specs.declared.frame.Frame.{Frame}
-use Rattle.frame.specs.Frame.{withFrames}
-use Rattle.frame.proofs.laws.Frame.{Step, withFrames-length, withFrames-cong, withFrames-same, downto-frames, upto-frames}
-use Rattle.frame.proofs.laws.Picks.{picks-eq, leaves-eq}
+use Rattle.frame.specs.Layout.{Layout, withFrames}
+use Rattle.frame.proofs.laws.Layout.{first-length, first-same, first-twice}
 
-abbrev pub turns : (ℕ → Step) → ℕ → ℕ → List Float → List Float
-turns g n j r = withFrames (g j) n r
+-- a way to take a step on each frame of a buffer that has at least so much room
+pub record Steps (I : Type 0) (with : (I → Frame → Frame) → List Float → List Float) (room : ℕ) : Type 0 where
+  pub long : (f : I → Frame → Frame) (l : List Float) → length (with f l) ≡ length l
+  pub same : (l : List Float) → with (λ i a. a) l ≡ l
+  pub twice : (f g : I → Frame → Frame) (l : List Float) → room ≤ length l → with g (with f l) ≡ with (λ i a. g i (f i a)) l
 
-module _ (g : ℕ → Step) (n : ℕ) (l now : List Float) {last : List Float} where
-  -- a turn keeps the length
-  pub turn-length : (j : ℕ) → length now ≡ length l → last ≡ withFrames (g j) n now → length last ≡ length l
-  turn-length j h e = ap length e ∙ withFrames-length (g j) n now ∙ h
+-- the frames of a layout
+pub frames-steps : {first n : ℕ} (L : Layout first n) → Steps ℕ (withFrames L) (first + 2 * n)
+frames-steps {first} {n} L =
+    record {
+      long = λ f l. first-length L f n l;
+      same = λ l. first-same L (λ i a. a) n l (λ k p a. refl);
+      twice = λ f g l r. first-twice L f g n l (le-refl n) r;
+    }
 
-  pub down-turn : (k : ℕ) {end : List Float} → 0 < k → downto (turns g n) k now ≡ end → last ≡ withFrames (g (k - 1)) n now → downto (turns g n) (k - 1) last ≡ end
-  down-turn k h inv e = ap (downto (turns g n) (k - 1)) e ∙ downto-turn (turns g n) k now h inv
+module _ {I : Type 0} (with : (I → Frame → Frame) → List Float → List Float) where
+  abbrev pub turns : (ℕ → I → Frame → Frame) → ℕ → List Float → List Float
+  turns g j r = with (g j) r
 
-  pub up-turn : (k : ℕ) → now ≡ upto (turns g n) k l → last ≡ withFrames (g k) n now → last ≡ upto (turns g n) (k + 1) l
-  up-turn k inv e = e ∙ upto-turn (turns g n) k l inv
+  -- a step behind a test of numbers
+  module _ (p q : ℕ) (g : I → Frame → Frame) (l : List Float) where
+    pub step-picked : p ≡ q → with (λ i a. cond (eqb p q) (g i a) a) l ≡ with g l
+    step-picked h = ap (λ (b : Bool). with (λ i a. cond b (g i a) a) l) (eq-eqb p q h)
 
-module _ (g : ℕ → Step) (n m : ℕ) (l : List Float) {k : ℕ} {now : List Float} where
-  pub down-done : k ≡ 0 → downto (turns g n) k now ≡ downto (turns g n) m l → now ≡ withFrames (λ i a. downto (λ j x. g j i x) m a) n l
-  down-done h inv = downto-end (turns g n) now h inv ∙ downto-frames g m n l
+    pub step-left : {room : ℕ} → Steps I with room → (p ≡ q → ⊥) → with (λ i a. cond (eqb p q) (g i a) a) l ≡ l
+    step-left S h = ap (λ (b : Bool). with (λ i a. cond b (g i a) a) l) (ne-eqb p q h) ∙ S .same l
 
-  pub up-done : k ≡ m → now ≡ upto (turns g n) k l → now ≡ withFrames (λ i a. upto (λ j x. g j i x) m a) n l
-  up-done h inv = upto-end (turns g n) l h inv ∙ upto-frames g m n l
+  module _ (g : ℕ → I → Frame → Frame) (l now : List Float) {last : List Float} where
+    pub down-turn : (k : ℕ) {end : List Float} → 0 < k → downto (turns g) k now ≡ end → last ≡ with (g (k - 1)) now → downto (turns g) (k - 1) last ≡ end
+    down-turn k h inv e = ap (downto (turns g) (k - 1)) e ∙ downto-turn (turns g) k now h inv
 
--- a step behind a test of numbers
-module _ (p q : ℕ) (g : Step) (n : ℕ) (l : List Float) where
-  pub step-picked : p ≡ q → withFrames (λ i a. cond (eqb p q) (g i a) a) n l ≡ withFrames g n l
-  step-picked h = withFrames-cong (λ i a. cond (eqb p q) (g i a) a) g n l (λ k _ _ a. picks-eq p q (g k a) a h)
+    pub up-turn : (k : ℕ) → now ≡ upto (turns g) k l → last ≡ with (g k) now → last ≡ upto (turns g) (k + 1) l
+    up-turn k inv e = e ∙ upto-turn (turns g) k l inv
 
-  pub step-left : (p ≡ q → ⊥) → withFrames (λ i a. cond (eqb p q) (g i a) a) n l ≡ l
-  step-left h = withFrames-same (λ i a. cond (eqb p q) (g i a) a) n l (λ k _ a. leaves-eq p q (g k a) a h)
+  module _ {room : ℕ} (S : Steps I with room) where
+    -- a turn keeps the length
+    pub turn-length : (g : I → Frame → Frame) (l now : List Float) {last : List Float} → length now ≡ length l → last ≡ with g now → length last ≡ length l
+    turn-length g l now h e = ap length e ∙ S .long g now ∙ h
 
--- the same test at each turn of a loop is one test
-module _ (h : ℕ → Frame → Frame) where
-  upto-same : (m : ℕ) (a : Frame) → upto (λ (j : ℕ) (x : Frame). x) m a ≡ a
-  unfolding upto
-  upto-same zero a = refl
-  upto-same (suc m) a = upto-same m a
+    -- a loop whose turns are steps on a buffer is a loop at each frame
+    downto-frames : (g : ℕ → I → Frame → Frame) (m : ℕ) (l : List Float) → room ≤ length l → downto (turns g) m l ≡ with (λ i a. downto (λ j x. g j i x) m a) l
+    unfolding downto
+    downto-frames g zero l r = sym (S .same l)
+    downto-frames g (suc m) l r =
+        downto-frames g m (with (g m) l) (subst (λ (k : ℕ). room ≤ k) (sym (S .long (g m) l)) r)
+        ∙ S .twice (g m) (λ i a. downto (λ j x. g j i x) m a) l r
 
-  downto-same : (m : ℕ) (a : Frame) → downto (λ (j : ℕ) (x : Frame). x) m a ≡ a
-  unfolding downto
-  downto-same zero a = refl
-  downto-same (suc m) a = downto-same m a
+    upto-frames : (g : ℕ → I → Frame → Frame) (m : ℕ) (l : List Float) → room ≤ length l → upto (turns g) m l ≡ with (λ i a. upto (λ j x. g j i x) m a) l
+    unfolding upto
+    upto-frames g zero l r = sym (S .same l)
+    upto-frames g (suc m) l r = ap (with (g m)) (upto-frames g m l r) ∙ S .twice (λ i a. upto (λ j x. g j i x) m a) (g m) l r
 
-  pub upto-test : (b : Bool) (m : ℕ) (a : Frame) → upto (λ j x. cond b (h j x) x) m a ≡ cond b (upto h m a) a
-  upto-test true m a = refl
-  upto-test false m a = upto-same m a
+    module _ (g : ℕ → I → Frame → Frame) (m : ℕ) (l : List Float) (r : room ≤ length l) {k : ℕ} {now : List Float} where
+      pub down-done : k ≡ 0 → downto (turns g) k now ≡ downto (turns g) m l → now ≡ with (λ i a. downto (λ j x. g j i x) m a) l
+      down-done h inv = downto-end (turns g) now h inv ∙ downto-frames g m l r
 
-  pub downto-test : (b : Bool) (m : ℕ) (a : Frame) → downto (λ j x. cond b (h j x) x) m a ≡ cond b (downto h m a) a
-  downto-test true m a = refl
-  downto-test false m a = downto-same m a
+      pub up-done : k ≡ m → now ≡ upto (turns g) k l → now ≡ with (λ i a. upto (λ j x. g j i x) m a) l
+      up-done h inv = upto-end (turns g) l h inv ∙ upto-frames g m l r

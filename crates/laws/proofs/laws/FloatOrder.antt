@@ -16,6 +16,7 @@ use lib.Ieee.Exact.{HasValue}
 use lib.Ieee.Scale.{finite, overflow}
 use lib.Ieee.Positive.{num, den}
 use lib.Ieee.Bits.{ofBits-toBits}
+use Rattle.laws.proofs.laws.Choice.{and-true}
 use Rattle.laws.specs.FloatOrder.{magnitude, Number, plus, minus}
 
 -- w units are the size of a value of the format: w is a number of at most prec digits times a power of two, and below the overflow
@@ -185,10 +186,6 @@ both-zero a b =
 
     first-zero : (a b : ℕ) → a + b ≡ 0 → a ≡ 0
     first-zero a b h = omega arith
-
-and-true : (b : Bool) → (b && true) ≡ b
-and-true true = refl
-and-true false = refl
 
 eqb-swap : (a b : ℕ) → eqb a b ≡ eqb b a
 eqb-swap a b = same-test (eqb a b) (eqb b a) (λ h. eq→eqb (sym (eqb→eq a b h))) (λ h. eq→eqb (sym (eqb→eq b a h)))

@@ -1,4 +1,4 @@
--- A table from which some lines are removed (01's demand 3 calls them struck). `keep i` says whether line i stays, counted from 0; `rank keep n` is
+-- A table from which some lines are removed. `keep i` says whether line i stays, counted from 0; `rank keep n` is
 -- how many lines below n stay, which is the new place of line n where it stays itself; `keptOf keep l` is the table that is left.
 -- The two lemmas at the end relate a loop over n lines to the loop over the lines that are left: if a turn at a kept line keeps a relation
 -- between the two states, and a turn at a removed line keeps it while the other side stands still, the two loops' results are related.

@@ -206,6 +206,16 @@ module _ {ℓ} {A : Type ℓ} where
   changed-all f (suc n) [] h = refl
   changed-all f (suc n) (x ∷ l) h = ap (λ (r : List A). f 0 x ∷ r) (changed-all (λ j. f (suc j)) n l (le-of-suc-le-suc h))
 
+  -- a turn past the list's end too: nothing is stored, and there is nothing to change
+  pub changed-turn-any : (f : ℕ → A → A) (i : ℕ) (l : List A) (d : A) {now : List A} → now ≡ changed f i l → set now i (f i (getD now i d)) ≡ changed f (i + 1) l
+  changed-turn-any f i l d {now} e = go (ltb i (length l)) (ltb→lt i (length l)) (nltb→le i (length l))
+    where
+      go : (b : Bool) → (T b → i < length l) → (T (not b) → length l ≤ i) → set now i (f i (getD now i d)) ≡ changed f (i + 1) l
+      go true h k = changed-turn f i l d (h tt) e
+      go false h k =
+          set-out now i (f i (getD now i d)) (le-trans (le-of-eq (ap length e ∙ changed-length f i l)) (k tt))
+          ∙ e ∙ changed-all f i l (k tt) ∙ sym (changed-all f (i + 1) l (le-trans (k tt) (le-add-right i 1)))
+
   -- the whole list changed by a function that does not look at the index is the map
   pub changed-map : (f : A → A) (l : List A) → changed (λ i. f) (length l) l ≡ map f l
   unfolding changed
@@ -226,13 +236,3 @@ module _ {ℓ} {A : Type ℓ} where
       ap (λ (r : List A). set r n (f n (getD r n d))) (changed-upto f n l d (le-trans (le-suc n) h))
       ∙ ap (λ (x : A). set (changed f n l) n (f n x)) (changed-here f n l d)
       ∙ changed-store f n l d h
-
--- a turn of a loop that changes elements, past the list's end too
-pub changed-turn-any {ℓ} : {A : Type ℓ} (f : ℕ → A → A) (i : ℕ) (l : List A) (d : A) {now : List A} → now ≡ changed f i l → set now i (f i (getD now i d)) ≡ changed f (i + 1) l
-changed-turn-any f i l d {now} e = go (ltb i (length l)) (ltb→lt i (length l)) (nltb→le i (length l))
-  where
-    go : (b : Bool) → (T b → i < length l) → (T (not b) → length l ≤ i) → set now i (f i (getD now i d)) ≡ changed f (i + 1) l
-    go true h k = changed-turn f i l d (h tt) e
-    go false h k =
-        set-out now i (f i (getD now i d)) (le-trans (le-of-eq (ap length e ∙ changed-length f i l)) (k tt))
-        ∙ e ∙ changed-all f i l (k tt) ∙ sym (changed-all f (i + 1) l (le-trans (k tt) (le-add-right i 1)))

@@ -6,7 +6,7 @@ use native.Mathlib.Nat.{le-trans, le-of-eq}
 use lib.ListN.{length, getD, set, length-set}
 use Rattle.laws.specs.Loop.{changed}
 use Rattle.laws.proofs.laws.Loop.{changed-length, changed-below}
-use Rattle.chunk.proofs.laws.Written.{set-line}
+use Rattle.laws.proofs.laws.Sets.{set-line}
 
 -- an array of so many places, and what holds of its first n lines; d stands past its end
 pub record ArrayOk {A : Type 0} (P : ℕ → A → Type 0) (n size : ℕ) (d : A) (l : List A) : Type 0 where

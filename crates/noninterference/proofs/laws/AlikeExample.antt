@@ -3,7 +3,7 @@
 -- Assumes nothing.
 use mathlib.Core.Path.{_≡_, refl, ap}
 use mathlib.Core.Bool.{Bool, true, false, _||_}
-use mathlib.Core.List.{List, [], _∷_, map}
+use mathlib.Core.List.{List, [], _∷_, _++_, map}
 use Prim.Native.Nat.{ℕ, zero, suc}
 use lib.Dec.{eqb}
 use lib.ListN.{getD}
@@ -12,13 +12,13 @@ use Rattle.laws.specs.Float.{AreF32, posZero, one}
 use Rattle.laws.specs.Loop.{upto, changed}
 use Rattle.laws.specs.Kept.{rank, keptOf}
 use Rattle.scene_tables.specs.Bytes.{every}
-use Rattle.scene_tables.specs.Tables.{width, raised, raisedMinus}
-use Rattle.scene_questions.specs.Questions.{Tables, linesOk, everyLine, inRange, volumeFits, partFits, millisFit, powerFits, orderFits, lineInRange, rangesOk, namesLine, targetTable, indexNamesLine, lineNamesLine, referencesOk, parentOf, withinDepth, depthsFit, depthsOk, samePair, newPair, routesFit, routesOk, soundFits, soundsFit, soundsOk, sampleOk, samplesOk, outputLength, lengthOk, asked, answerOfTables}
+use Rattle.scene_tables.specs.Tables.{raised, raisedMinus}
+use Rattle.scene_questions.specs.Questions.{Tables, linesOk, everyLine, inRange, volumeFits, partFits, millisFit, powerFits, orderFits, lineInRange, rangesOk, namesLine, indexTable, indexNamesLine, lineNamesLine, referencesOk, parentOf, withinDepth, depthsFit, samePair, newPair, routesFit, soundFits, soundsFit, sampleOk, samplesOk, outputLength, firstNo, tableQuestions}
 use Rattle.scene.specs.Scene.{sceneOf}
 use Rattle.accepted.proofs.laws.Passed.{tables-pass}
 use Rattle.noninterference.specs.Removed.{newLine, Choice, insideWithin, inside, removedTrack, namesRemoved, removedRoute, removedSound, removedOrder, keptTracks, leftTables, renumbered, renumberedOrder, linesLeft}
 use Rattle.noninterference.specs.Silent.{silentVolume, names, muted, held, pausesOrResumes, isHolding}
-use Rattle.noninterference.specs.Alike.{same, sameLines, unplaced, sameTables, chosenLeft, framesLeft, sameBits, silentChoice, alike}
+use Rattle.noninterference.specs.Alike.{same, unplaced, sameTables, chosenLeft, framesLeft, sameBits, silentChoice, alike}
 use Rattle.noninterference.proofs.laws.SceneLeft.{SceneLeft}
 use Rattle.noninterference.proofs.laws.Silent.{quiet}
 use Rattle.noninterference.proofs.laws.FromAlike.{first-left}
@@ -127,7 +127,7 @@ failing =
     ∷ []
 
 pub tests : (passing ≡ map (λ b. true) passing) × (failing ≡ map (λ b. false) failing)
-unfolding alike sameTables sameLines same unplaced chosenLeft framesLeft sameBits silentChoice toBits leftTables linesLeft keptOf changed renumbered renumberedOrder newLine rank insideWithin inside removedTrack removedRoute removedSound removedOrder namesRemoved parentOf muted silentVolume names held pausesOrResumes isHolding every upto
+unfolding alike sameTables same unplaced chosenLeft framesLeft sameBits silentChoice toBits leftTables linesLeft keptOf changed renumbered renumberedOrder newLine rank insideWithin inside removedTrack removedRoute removedSound removedOrder namesRemoved parentOf muted silentVolume names held pausesOrResumes isHolding every upto
 tests = (refl, refl)
 
 pub alike-example : alikeFirst second secondSamples secondChoice ≡ true
@@ -135,8 +135,8 @@ alike-example = ap (λ (l : List Bool). getD l 0 false) (tests .0)
 
 -- ---- both are accepted, so that the relation has members
 
-pub accepted-example : (answerOfTables first firstSamples 4 ≡ 0) × (answerOfTables second secondSamples 4 ≡ 0)
-unfolding answerOfTables asked linesOk rangesOk everyLine width inRange lineInRange orderFits volumeFits partFits millisFit powerFits referencesOk namesLine lineNamesLine indexNamesLine targetTable depthsOk depthsFit withinDepth parentOf routesOk routesFit newPair samePair soundsOk soundsFit soundFits samplesOk sampleOk lengthOk outputLength every le neg ofInt round
+pub accepted-example : (firstNo (tableQuestions first firstSamples ++ ((10, eqb 4 (outputLength first)) ∷ [])) ≡ 0) × (firstNo (tableQuestions second secondSamples ++ ((10, eqb 4 (outputLength second)) ∷ [])) ≡ 0)
+unfolding firstNo tableQuestions linesOk rangesOk everyLine inRange lineInRange orderFits volumeFits partFits millisFit powerFits referencesOk namesLine lineNamesLine indexNamesLine indexTable depthsFit withinDepth parentOf routesFit newPair samePair soundsFit soundFits samplesOk sampleOk outputLength every le neg ofInt round
 accepted-example = (refl, refl)
 
 first-fits : AreF32 firstSamples

@@ -29,11 +29,11 @@ use Rattle.frame.specs.Frame.{zeroFrame, added}
 use Rattle.chunk.specs.Chunk.{amountAt, levelAmplitude, trackAmplitude, LevelInRange, ChunkOk, trackRow, soundRow}
 use Rattle.chunk.proofs.laws.Chunk.{IsAmount, amount-is, level-admitted}
 use Rattle.track.specs.Sound.{soundFrame, addedSound, withSounds}
-use Rattle.track.specs.Sub.{overSubTracks, trackFrame}
+use Rattle.track.specs.Sub.{overSubTracks, trackFrame, sumOver, trackSum}
 use Rattle.frame.specs.Running.{Both}
 use Rattle.track.proofs.laws.Running.{both-added, both-zero, picked-if}
 use Rattle.noninterference.proofs.laws.Frames.{Finite, both-map, both-scaled}
-use Rattle.noninterference.proofs.laws.Parts.{trackSum, track-parts, track-holds}
+use Rattle.noninterference.proofs.laws.Parts.{track-parts, track-holds}
 
 -- ---- amplitudes
 
@@ -106,7 +106,7 @@ module _ (c : Chunk) (samples : List Float) (ok : ChunkOk c samples) (i : ℕ) (
     (heard : (k : ℕ) → k < c .«sound_count» → Both (Size 1) (soundFrame samples (soundRow c k) i)) where
   -- a track's frame before its volume, where the tracks below are within 2 ^ u
   sum-within : (d u line : ℕ) → u ≤ 121 → ((j : ℕ) → j < c .«track_count» → Both (Size (2 ^ u)) (trackFrame d c samples (suc j) i)) → Both (Size (2 ^ (7 + u))) (trackSum d c samples line i)
-  unfolding trackSum withSounds addedSound overSubTracks
+  unfolding sumOver withSounds addedSound overSubTracks
   sum-within d u line U h =
       let n = c .«track_count» in
       let m = c .«sound_count» in

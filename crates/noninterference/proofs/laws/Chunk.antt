@@ -1,4 +1,4 @@
--- A chunk c, and the chunk c' that is left of it once what lies inside some silent tracks is removed (01's demand 3 calls those lines struck). Tracks,
+-- A chunk c, and the chunk c' that is left of it once what lies inside some silent tracks is removed. Tracks,
 -- routes and sounds are counted from 0 here: `keep` says which tracks are kept, `chosen` which of them lose what lies inside, and `quiet` which have no
 -- route, nor has any track below them. Of c' and its samples nothing is asked but that they are what is left. Assumes nothing.
 use mathlib.Core.Path.{_≡_}

@@ -17,7 +17,7 @@ use Rattle.scene.specs.declared.scene.SoundLine.{SoundLine}
 use Rattle.accepted.specs.Lines.{trackLine, routeLine, soundLine}
 use Rattle.frame.specs.declared.frame.Frame.{Frame}
 use Rattle.chunk.specs.declared.chunk.ChunkSound.{ChunkSound}
-use Rattle.frame.specs.Frame.{zeroFrame, frameAt}
+use Rattle.frame.specs.Frame.{zeroFrame, sampleFrame}
 use Rattle.track.specs.Sound.{soundFrame}
 use Rattle.mixer.specs.declared.mixer.Mixer.{Mixer}
 use Rattle.mixer.specs.Mixer.{stateOf, parameterOf}
@@ -54,12 +54,12 @@ where-true b b' {x} {x'} z e h = ap (λ (c : Bool). cond c x' z) e ∙ go b h
     go false p = refl
 
 module _ (samples samples' : List Float) (line line' : SoundLine) (count : line' .count ≡ line .count)
-    (frames : (j : ℕ) → j < line .count → frameAt samples' (line' .first + j) ≡ frameAt samples (line .first + j)) (i : ℕ) where
+    (frames : (j : ℕ) → j < line .count → sampleFrame samples' (line' .first + j) ≡ sampleFrame samples (line .first + j)) (i : ℕ) where
   plays-from : (done : ℕ) → soundFrame samples' (chunkSound line' done) i ≡ soundFrame samples (chunkSound line done) i
   unfolding soundFrame chunkSound
   plays-from done =
       where-true (ltb i (line .count - done)) (ltb i (line' .count - done)) zeroFrame (ap (λ (n : ℕ). ltb i (n - done)) count)
-      (λ t. ap (frameAt samples') (moved (line' .first) done i) ∙ frames (done + i) (inside (line .count) done i (ltb→lt i (line .count - done) t)) ∙ ap (frameAt samples) (sym (moved (line .first) done i)))
+      (λ t. ap (sampleFrame samples') (moved (line' .first) done i) ∙ frames (done + i) (inside (line .count) done i (ltb→lt i (line .count - done) t)) ∙ ap (sampleFrame samples) (sym (moved (line .first) done i)))
     where
       moved : (a b c : ℕ) → a + b + c ≡ a + (b + c)
       moved a b c = omega arith
@@ -73,9 +73,9 @@ module _ (samples samples' : List Float) (line line' : SoundLine) (count : line'
 -- samples within 1 are heard within 1
 pub heard-within : (samples : List Float) → ((j : ℕ) → j < length samples → Within (getD samples j nan) 1 1) → (x : ChunkSound) → 2 * (x .start + x .left) ≤ length samples → (i : ℕ)
     → Both (Size 1) (soundFrame samples x i)
-unfolding soundFrame frameAt
+unfolding soundFrame sampleFrame
 heard-within samples h x b i =
-    picked-if (Both (Size 1)) (ltb i (x .left)) (frameAt samples (x .start + i)) zeroFrame
+    picked-if (Both (Size 1)) (ltb i (x .left)) (sampleFrame samples (x .start + i)) zeroFrame
     (λ t.
     let l = ltb→lt i (x .left) t in
     record { left = h (2 * (x .start + i)) (even (x .start) (x .left) i (length samples) b l); right = h (2 * (x .start + i) + 1) (odd (x .start) (x .left) i (length samples) b l) })

@@ -20,7 +20,7 @@ use Rattle.chunk.specs.declared.chunk.ChunkTrack.{ChunkTrack}
 use Rattle.chunk.specs.declared.chunk.ChunkRoute.{ChunkRoute}
 use Rattle.chunk.specs.declared.chunk.ChunkSound.{ChunkSound}
 use Rattle.chunk.specs.declared.chunk.Chunk.{Chunk}
-use Rattle.frame.specs.Frame.{frameAt}
+use Rattle.frame.specs.Frame.{sampleFrame}
 use Rattle.chunk.specs.Chunk.{amountAt, LevelInRange, ChunkOk, trackRow, routeRow, soundRow, sendRow}
 use Rattle.chunk.proofs.laws.Chunk.{amount-is}
 use Rattle.track.specs.Sound.{soundFrame}
@@ -136,7 +136,7 @@ one-within : Within one 1 1
 one-within = record { is-finite = tt; size = lit≤ tt }
 
 played : (i : ℕ) → i < 1 → Within (soundFrame samples (sound 1) i .left) 1 1 × Within (soundFrame samples (sound 1) i .right) 1 1
-unfolding soundFrame frameAt
+unfolding soundFrame sampleFrame
 played = only (λ i. Within (soundFrame samples (sound 1) i .left) 1 1 × Within (soundFrame samples (sound 1) i .right) 1 1) (one-within, one-within)
 
 no-route : (j : ℕ) → T (later j) → 1 ≡ suc j → ⊥
@@ -144,7 +144,7 @@ no-route zero q e = q
 no-route (suc j) q e = omega arith
 
 pub example : Without first first later whole samples rest []
-unfolding rank newLine keptLine openLine soundFrame frameAt
+unfolding rank newLine keptLine openLine soundFrame sampleFrame
 example =
     record {
       same-frames = refl;

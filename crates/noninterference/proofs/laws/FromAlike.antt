@@ -6,21 +6,22 @@ use mathlib.Core.Bool.{Bool, true}
 use mathlib.Core.List.{List, []}
 use Prim.Native.Nat.{ℕ, _+_, _<_}
 use native.Mathlib.Nat.{lt-trans}
-use lib.Dec.{T, eqb}
+use lib.Dec.{T, eqb, lit<}
 use lib.ListN.{length, getD}
 use lib.Ieee.{Float}
 use Rattle.laws.specs.Float.{AreF32}
+use Rattle.limits.specs.Limits.{clockLines, trackLines, sendLines, routeLines, orderLines}
+use Rattle.laws.proofs.laws.Choice.{and-left, and-right}
 use Rattle.laws.specs.Kept.{rank}
 use Rattle.laws.proofs.laws.Kept.{rank-cong, rank-lt, keptOf-at}
-use Rattle.scene_tables.specs.Tables.{natural, tracks, routes, sounds, orders}
+use Rattle.scene_tables.specs.Tables.{natural, tracks, routes, sounds, orders, trackColumn, routeColumn, soundColumn}
 use Rattle.scene.specs.declared.scene.Scene.{Scene}
 use Rattle.scene.specs.declared.scene.SoundLine.{SoundLine}
 use Rattle.scene_questions.specs.Questions.{Tables, rowsAt, linesAt, field, cell}
-use Rattle.scene.specs.Scene.{headOf, clockOf, trackOf, sendOf, routeOf, soundOf, orderOf, filled, sceneOf, emptyTrackLine, emptyRouteLine, emptyOrderLine, emptyClockLine, emptySendLine}
-use Rattle.scene_questions.proofs.laws.Loops.{and-left, and-right}
+use Rattle.scene.specs.Scene.{headOf, clockOf, trackOf, sendOf, routeOf, soundOf, orderOf, filled, sceneOf}
 use Rattle.accepted.specs.Lines.{trackLine, routeLine, soundLine, orderLine, absentTrackLine, absentRouteLine, absentOrderLine, absentClockLine, absentSendLine}
 use Rattle.accepted.proofs.laws.Passed.{TablesPass}
-use Rattle.frame.specs.Frame.{frameAt}
+use Rattle.frame.specs.Frame.{sampleFrame}
 use Rattle.noninterference.specs.Removed.{newLine, Choice, keptTracks, keptRoutes, keptSounds, keptOrders, leftTables, renumbered, renumberedOrder}
 use Rattle.noninterference.specs.Alike.{same, sameTables, chosenLeft, framesLeft, sameBits, silentChoice, alike}
 use Rattle.noninterference.proofs.laws.SceneLeft.{keptOrder, newTrackLine, newRouteLine, newOrderLine, SceneLeft}
@@ -45,20 +46,20 @@ module _ (ts ts' : Tables) (chosen chosen' : Choice) (tables : SameTables (leftT
   tracks-left : (t : ℕ) → t < linesAt ts tracks → T (keep t) → trackLine e (rank keep t) ≡ newTrackLine keep (trackLine (sceneOf ts) t)
   unfolding sceneOf leftTables
   tracks-left =
-      place-left 32 emptyTrackLine trackOf absentTrackLine keep (λ t row. renumbered keep 0 row) (newTrackLine keep) (rowsAt ts tracks) (rowsAt (leftTables ts' chosen') tracks) (tables .tracks)
+      place-left trackLines trackOf absentTrackLine keep (λ t row. renumbered keep (trackColumn .parent) row) (newTrackLine keep) (rowsAt ts tracks) (rowsAt (leftTables ts' chosen') tracks) (tables .tracks)
       (λ t h. track-new keep (getD (rowsAt ts tracks) t []))
 
   routes-left : (r : ℕ) → r < linesAt ts routes → T (keptRoutes ts chosen r) → routeLine e (rank (keptRoutes ts chosen) r) ≡ newRouteLine keep (routeLine (sceneOf ts) r)
   unfolding sceneOf leftTables
   routes-left =
-      place-left 64 emptyRouteLine routeOf absentRouteLine (keptRoutes ts chosen) (λ r row. renumbered keep 0 row) (newRouteLine keep) (rowsAt ts routes) (rowsAt (leftTables ts' chosen') routes) (tables .routes)
+      place-left routeLines routeOf absentRouteLine (keptRoutes ts chosen) (λ r row. renumbered keep (routeColumn .track) row) (newRouteLine keep) (rowsAt ts routes) (rowsAt (leftTables ts' chosen') routes) (tables .routes)
       (λ r h. route-new keep (getD (rowsAt ts routes) r []))
 
   orders-left : (samples : List Float) (output : ℕ) → TablesPass ts samples output → (i : ℕ) → i < linesAt ts orders → T (keptOrders ts chosen i)
       → orderLine e (rank (keptOrders ts chosen) i) ≡ newOrderLine keep (sceneOf ts) (orderLine (sceneOf ts) i)
   unfolding sceneOf leftTables
   orders-left samples output passed =
-      place-left 128 emptyOrderLine orderOf absentOrderLine (keptOrders ts chosen) (λ i row. renumberedOrder ts chosen row) (newOrderLine keep (sceneOf ts)) (rowsAt ts orders)
+      place-left orderLines orderOf absentOrderLine (keptOrders ts chosen) (λ i row. renumberedOrder ts chosen row) (newOrderLine keep (sceneOf ts)) (rowsAt ts orders)
       (rowsAt (leftTables ts' chosen') orders) (tables .orders) (order-new ts chosen samples output passed)
 
   -- ---- sounds
@@ -67,7 +68,7 @@ module _ (ts ts' : Tables) (chosen chosen' : Choice) (tables : SameTables (leftT
   unfolding leftTables
   sounds-count =
       unplaced-length (rowsAt (leftTables ts chosen) sounds) (rowsAt (leftTables ts' chosen') sounds) (tables .sounds)
-      ∙ left-length (keptSounds ts chosen) (λ k row. renumbered keep 0 row) (rowsAt ts sounds)
+      ∙ left-length (keptSounds ts chosen) (λ k row. renumbered keep (soundColumn .track) row) (rowsAt ts sounds)
 
   module _ (k : ℕ) (h : k < linesAt ts sounds) (t : T (keptSounds ts chosen k)) where
     abbrev newPlace : ℕ
@@ -77,10 +78,10 @@ module _ (ts ts' : Tables) (chosen chosen' : Choice) (tables : SameTables (leftT
     sound-new = sound-at (leftTables ts' chosen') newPlace (subst (λ (n : ℕ). newPlace < n) (sym sounds-count) (rank-lt (keptSounds ts chosen) k (linesAt ts sounds) t h))
 
     -- fields other than where the frames stand, before references are counted anew
-    sound-field : (j : ℕ) → j ≢ 1 → field (getD (rowsAt (leftTables ts' chosen') sounds) newPlace []) j ≡ field (renumbered keep 0 (getD (rowsAt ts sounds) k [])) j
+    sound-field : (j : ℕ) → j ≢ soundColumn .first → field (getD (rowsAt (leftTables ts' chosen') sounds) newPlace []) j ≡ field (renumbered keep (soundColumn .track) (getD (rowsAt ts sounds) k [])) j
     sound-field j n =
         unplaced-field (rowsAt (leftTables ts chosen) sounds) (rowsAt (leftTables ts' chosen') sounds) (tables .sounds) newPlace j n
-        ∙ ap (λ (row : List ℕ). field row j) (sound-row ts chosen newPlace ∙ ap (renumbered keep 0) (keptOf-at (keptSounds ts chosen) (rowsAt ts sounds) k [] t h))
+        ∙ ap (λ (row : List ℕ). field row j) (sound-row ts chosen newPlace ∙ ap (renumbered keep (soundColumn .track)) (keptOf-at (keptSounds ts chosen) (rowsAt ts sounds) k [] t h))
 
     sound-track : soundLine e newPlace .track ≡ newLine keep (soundLine (sceneOf ts) k .track)
     unfolding soundOf
@@ -90,7 +91,7 @@ module _ (ts ts' : Tables) (chosen chosen' : Choice) (tables : SameTables (leftT
         ∙ counted-field keep 0 (getD (rowsAt ts sounds) k [])
         ∙ ap (newLine keep) (sym (sound-track-at ts k))
 
-    count-same : natural (field (getD (rowsAt (leftTables ts' chosen') sounds) newPlace []) 2) ≡ natural (cell (rowsAt ts sounds) k 2)
+    count-same : natural (field (getD (rowsAt (leftTables ts' chosen') sounds) newPlace []) (soundColumn .count)) ≡ natural (cell (rowsAt ts sounds) k (soundColumn .count))
     count-same = ap natural (sound-field 2 (differ tt) ∙ counted-other keep 0 (getD (rowsAt ts sounds) k []) 2 (differ tt))
 
     sound-count : soundLine e newPlace .count ≡ soundLine (sceneOf ts) k .count
@@ -111,18 +112,22 @@ module _ (ts ts' : Tables) (chosen chosen' : Choice) (tables : SameTables (leftT
           ap₂ (same sameBits) (ap (played samples) (sym (keptOf-at (keptSounds ts chosen) (rowsAt ts sounds) k [] t h)) ∙ sym (played-at ts chosen samples newPlace)) (sym (played-at ts' chosen' samples' newPlace))
           ∙ same-at (same sameBits) (framesLeft ts chosen samples) (framesLeft ts' chosen' samples') [] refl frames newPlace
 
-      sound-frames : (i : ℕ) → i < soundLine (sceneOf ts) k .count → frameAt samples' (soundLine e newPlace .first + i) ≡ frameAt samples (soundLine (sceneOf ts) k .first + i)
+      sound-frames : (i : ℕ) → i < soundLine (sceneOf ts) k .count → sampleFrame samples' (soundLine e newPlace .first + i) ≡ sampleFrame samples (soundLine (sceneOf ts) k .first + i)
       unfolding soundOf
       sound-frames i l =
           let old = sound-at ts k h in
           let first = ap (λ (x : SoundLine). x .first) old in
           let first' = ap (λ (x : SoundLine). x .first) sound-new ∙ ap natural (field-new 1 (differ tt)) in
-          ap (λ (n : ℕ). frameAt samples' (n + i)) first'
+          ap (λ (n : ℕ). sampleFrame samples' (n + i)) first'
           ∙ frame-same samples samples' fit fit' (getD (rowsAt ts sounds) k []) row' (ap natural (sym (field-new 2 (differ tt))) ∙ count-same) played-same i
           (subst (λ (x : SoundLine). i < x .count) old l)
-          ∙ ap (λ (n : ℕ). frameAt samples (n + i)) (sym first)
+          ∙ ap (λ (n : ℕ). sampleFrame samples (n + i)) (sym first)
 
 -- ---- the relation
+
+seven : (ts : Tables) (chosen : Choice) → sounds < length (leftTables ts chosen)
+unfolding leftTables
+seven ts chosen = lit< tt
 
 -- What is left of one scene, with the samples of another whose tables and frames left are the same. Nothing else is asked of the other.
 pub left-of : (ts ts' : Tables) (samples samples' : List Float) (output : ℕ) (chosen chosen' : Choice) → TablesPass ts samples output → AreF32 samples → AreF32 samples'
@@ -135,20 +140,20 @@ left-of ts ts' samples samples' output chosen chosen' passed fit fit' tables fra
     let keep = keptTracks ts chosen in
     let s = sceneOf ts in
     let e = sceneOf (leftTables ts' chosen') in
-    let eq = same-tables (leftTables ts chosen) (leftTables ts' chosen') tables in
+    let eq = same-tables (leftTables ts chosen) (leftTables ts' chosen') (seven ts chosen) (seven ts' chosen') tables in
     let routes-now = routes-kept ts chosen in
     let sounds-now = sounds-kept ts chosen samples output passed in
     let orders-now = order-kept ts chosen samples output passed in
     record {
       head = ap (λ (rows : List (List ℕ)). headOf (getD rows 0 [])) (sym (eq .head));
       clock-count = ap length (sym (eq .clocks));
-      clocks = λ i h. ap (λ (rows : List (List ℕ)). getD (filled 8 emptyClockLine clockOf rows) i absentClockLine) (sym (eq .clocks));
+      clocks = λ i h. ap (λ (rows : List (List ℕ)). getD (filled clockLines clockOf rows) i absentClockLine) (sym (eq .clocks));
       send-count = ap length (sym (eq .sends));
-      sends = λ i h. ap (λ (rows : List (List ℕ)). getD (filled 8 emptySendLine sendOf rows) i absentSendLine) (sym (eq .sends));
-      track-count = left-count keep (λ t row. renumbered keep 0 row) (rowsAt ts tracks) (eq .tracks);
+      sends = λ i h. ap (λ (rows : List (List ℕ)). getD (filled sendLines sendOf rows) i absentSendLine) (sym (eq .sends));
+      track-count = left-count keep (λ t row. renumbered keep (trackColumn .parent) row) (rowsAt ts tracks) (eq .tracks);
       tracks = tracks-left ts ts' chosen chosen' eq;
       route-count =
-          left-count (keptRoutes ts chosen) (λ t row. renumbered keep 0 row) (rowsAt ts routes) (eq .routes) ∙ ap (λ (kept : ℕ → Bool). rank kept (linesAt ts routes)) routes-now;
+          left-count (keptRoutes ts chosen) (λ t row. renumbered keep (routeColumn .track) row) (rowsAt ts routes) (eq .routes) ∙ ap (λ (kept : ℕ → Bool). rank kept (linesAt ts routes)) routes-now;
       routes =
           subst (λ (kept : ℕ → Bool). (r : ℕ) → r < linesAt ts routes → T (kept r) → routeLine e (rank kept r) ≡ newRouteLine keep (routeLine s r)) routes-now
           (routes-left ts ts' chosen chosen' eq);
@@ -162,7 +167,7 @@ left-of ts ts' samples samples' output chosen chosen' passed fit fit' tables fra
       sound-frames =
           subst
           (λ (kept : ℕ → Bool). (k : ℕ) → k < linesAt ts sounds → T (kept k) → (i : ℕ) → i < soundLine s k .count
-          → frameAt samples' (soundLine e (rank kept k) .first + i) ≡ frameAt samples (soundLine s k .first + i))
+          → sampleFrame samples' (soundLine e (rank kept k) .first + i) ≡ sampleFrame samples (soundLine s k .first + i))
           sounds-now (λ k h t. sound-frames ts ts' chosen chosen' eq k h t samples samples' fit fit' frames);
       order-count =
           left-count (keptOrders ts chosen) (λ i row. renumberedOrder ts chosen row) (rowsAt ts orders) (eq .orders)

@@ -6,7 +6,7 @@ use Prim.Native.Nat.{ℕ, suc, _<_}
 use lib.Dec.{lit<}
 use lib.ListN.{getD}
 use lib.Ieee.{Float}
-use Rattle.scene_tables.specs.Tables.{natural, tracks, routes, sounds, orders}
+use Rattle.scene_tables.specs.Tables.{natural, tracks, routes, sounds, orders, trackColumn, routeColumn, soundColumn, orderColumn}
 use Rattle.scene.specs.declared.scene.OrderLine.{OrderLine}
 use Rattle.scene_questions.specs.Questions.{Tables, rowsAt, linesAt, cell, parentOf}
 use Rattle.scene.specs.Scene.{trackOf, routeOf, orderOf, sceneOf}
@@ -23,11 +23,11 @@ use Rattle.noninterference.proofs.laws.SceneLines.{order-at, parent-at,
 
 -- ---- lines counted anew, as the scene has them
 
-pub track-new : (keep : ℕ → Bool) (row : List ℕ) → trackOf (renumbered keep 0 row) ≡ newTrackLine keep (trackOf row)
+pub track-new : (keep : ℕ → Bool) (row : List ℕ) → trackOf (renumbered keep (trackColumn .parent) row) ≡ newTrackLine keep (trackOf row)
 unfolding trackOf
 track-new keep row = rw (counted-field keep 0 row, counted-other keep 0 row 1 (differ tt))
 
-pub route-new : (keep : ℕ → Bool) (row : List ℕ) → routeOf (renumbered keep 0 row) ≡ newRouteLine keep (routeOf row)
+pub route-new : (keep : ℕ → Bool) (row : List ℕ) → routeOf (renumbered keep (routeColumn .track) row) ≡ newRouteLine keep (routeOf row)
 unfolding routeOf
 route-new keep row = rw (counted-field keep 0 row, counted-other keep 0 row 1 (differ tt), counted-other keep 0 row 2 (differ tt))
 
@@ -37,7 +37,7 @@ module _ (ts : Tables) (chosen : Choice) where
   pub routes-kept : keptRoutes ts chosen ≡ keptRouteLine (keptTracks ts chosen) (sceneOf ts)
   unfolding removedRoute
   routes-kept =
-      fun-ext (λ r. names-kept (removedTrack ts chosen) (natural (cell (rowsAt ts routes) r 0)) ∙ ap (keptLine (keptTracks ts chosen)) (sym (route-track-at ts r)))
+      fun-ext (λ r. names-kept (removedTrack ts chosen) (natural (cell (rowsAt ts routes) r (routeColumn .track))) ∙ ap (keptLine (keptTracks ts chosen)) (sym (route-track-at ts r)))
 
   module _ (samples : List Float) (output : ℕ) (passed : TablesPass ts samples output) where
     pub track-kept : (t : ℕ) → keptTracks ts chosen t ≡ openLine (keptTracks ts chosen) chosen (trackLine (sceneOf ts) t .parent)
@@ -50,18 +50,18 @@ module _ (ts : Tables) (chosen : Choice) where
     unfolding removedSound
     sounds-kept =
         fun-ext (λ k.
-        open-line ts (passed-early ts samples output passed) chosen (natural (cell (rowsAt ts sounds) k 0))
+        open-line ts (passed-early ts samples output passed) chosen (natural (cell (rowsAt ts sounds) k (soundColumn .track)))
         ∙ ap (openLine (keptTracks ts chosen) chosen) (sym (sound-track-at ts k)))
 
     pub order-kept : (i : ℕ) → i < linesAt ts orders → keptOrders ts chosen i ≡ keptOrder (keptTracks ts chosen) (sceneOf ts) i
     unfolding removedOrder orderOf
     order-kept i h =
         let ok = line-ok ts (passed .ranges) (passed .references) orders i (lit< tt) h in
-        index-kept ts chosen routes-kept (linesAt ts) (cell (rowsAt ts orders) i 1) (cell (rowsAt ts orders) i 2) (ok .fields 1 (lit< tt)) (ok .whole .1)
+        index-kept ts chosen routes-kept (linesAt ts) (cell (rowsAt ts orders) i (orderColumn .kind)) (cell (rowsAt ts orders) i (orderColumn .index)) (ok .fields (orderColumn .kind) (lit< tt)) (ok .whole .1)
         ∙ ap (λ (o : OrderLine). keptIndex (keptTracks ts chosen) (sceneOf ts) (o .kind) (o .index)) (sym (order-at ts i h))
 
     pub order-new : (i : ℕ) → i < linesAt ts orders
         → orderOf (renumberedOrder ts chosen (getD (rowsAt ts orders) i [])) ≡ newOrderLine (keptTracks ts chosen) (sceneOf ts) (orderOf (getD (rowsAt ts orders) i []))
     order-new i h =
         let ok = line-ok ts (passed .ranges) (passed .references) orders i (lit< tt) h in
-        order-left ts chosen routes-kept (linesAt ts) (getD (rowsAt ts orders) i []) (ok .fields 1 (lit< tt)) (ok .whole .1)
+        order-left ts chosen routes-kept (linesAt ts) (getD (rowsAt ts orders) i []) (ok .fields (orderColumn .kind) (lit< tt)) (ok .whole .1)

@@ -74,14 +74,14 @@ left-map keep g rows = ap (keptOf keep) (changed-map g rows) ∙ kept-map keep g
 
 -- ---- lines in their places
 
-module _ {X : Type 0} (room : ℕ) (none : X) (f : List ℕ → X) (absent : X) where
-  pub place : (rows : List (List ℕ)) (i : ℕ) → i < length rows → getD (filled room none f rows) i absent ≡ f (getD rows i [])
-  place rows = every-place room none f rows absent (λ i x. x ≡ f (getD rows i [])) (λ i h. refl)
+module _ {X : Type 0} (places : ℕ) (f : List ℕ → X) (absent : X) where
+  pub place : (rows : List (List ℕ)) (i : ℕ) → i < length rows → getD (filled places f rows) i absent ≡ f (getD rows i [])
+  place rows = every-place places f rows absent (λ i x. x ≡ f (getD rows i [])) (λ i h. refl)
 
   -- a line that is left, at its new place
   pub place-left : (keep : ℕ → Bool) (g : ℕ → List ℕ → List ℕ) (h : X → X) (rows rows' : List (List ℕ)) → linesLeft keep g rows ≡ rows'
       → ((i : ℕ) → i < length rows → f (g i (getD rows i [])) ≡ h (f (getD rows i [])))
-      → (i : ℕ) → i < length rows → T (keep i) → getD (filled room none f rows') (rank keep i) absent ≡ h (getD (filled room none f rows) i absent)
+      → (i : ℕ) → i < length rows → T (keep i) → getD (filled places f rows') (rank keep i) absent ≡ h (getD (filled places f rows) i absent)
   place-left keep g h rows rows' e a i k t =
       let there : rank keep i < length rows' = subst (λ (n : ℕ). rank keep i < n) (sym (left-length keep g rows) ∙ ap length e) (rank-lt keep i (length rows) t k) in
       place rows' (rank keep i) there
@@ -91,13 +91,13 @@ module _ {X : Type 0} (room : ℕ) (none : X) (f : List ℕ → X) (absent : X) 
       ∙ ap h (sym (place rows i k))
 
   -- a number of a line, also where no line stands, if it reads the same there
-  pub place-number : (q : X → ℕ) → q none ≡ q (f []) → q absent ≡ q (f []) → (rows : List (List ℕ)) (i : ℕ) → q (getD (filled room none f rows) i absent) ≡ q (f (getD rows i []))
+  pub place-number : (q : X → ℕ) → q absent ≡ q (f []) → (rows : List (List ℕ)) (i : ℕ) → q (getD (filled places f rows) i absent) ≡ q (f (getD rows i []))
   unfolding filled
-  place-number q a b rows i = go rows (room - length rows) i
+  place-number q b rows i = go rows (places - length rows) i
     where
-      go : (rows : List (List ℕ)) (n i : ℕ) → q (getD (map f rows ++ replicate n none) i absent) ≡ q (f (getD rows i []))
+      go : (rows : List (List ℕ)) (n i : ℕ) → q (getD (map f rows ++ replicate n (f [])) i absent) ≡ q (f (getD rows i []))
       go [] zero i = b
-      go [] (suc n) zero = a
+      go [] (suc n) zero = refl
       go [] (suc n) (suc i) = go [] n i
       go (row ∷ rows) n zero = refl
       go (row ∷ rows) n (suc i) = go rows n i

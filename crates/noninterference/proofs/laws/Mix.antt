@@ -5,6 +5,7 @@ use mathlib.Core.List.{List}
 use Prim.Native.Nat.{ℕ, suc, _<_}
 use lib.Dec.{lit≤}
 use lib.Ieee.{Float}
+use Rattle.limits.specs.Limits.{trackDepth}
 use Rattle.laws.specs.Loop.{downto}
 use Rattle.laws.proofs.laws.Loop.{downto-cong}
 use Rattle.frame.specs.declared.frame.Frame.{Frame}
@@ -13,9 +14,9 @@ use Rattle.chunk.specs.declared.chunk.Chunk.{Chunk}
 use Rattle.frame.specs.Frame.{zeroFrame, added, scaled}
 use Rattle.chunk.specs.Chunk.{amountAt, levelAmplitude, sendRow}
 use Rattle.track.specs.Sound.{withSounds}
-use Rattle.track.specs.Sub.{withTrackSends}
+use Rattle.track.specs.Sub.{withTrackSends, withSubSends}
 use Rattle.track.specs.Send.{sendFrame}
-use Rattle.track.specs.Mix.{levels, sendInput, tracksFrame, mixedFrame}
+use Rattle.track.specs.Mix.{sendInput, tracksFrame, mixedFrame}
 use Rattle.noninterference.specs.Removed.{newLine}
 use Rattle.noninterference.proofs.laws.Lines.{open-zero}
 use Rattle.noninterference.proofs.laws.Chunk.{Without}
@@ -32,13 +33,13 @@ sent c samples i s x = added x (sendFrame (sendRow c s) (c .frames) i (sendInput
 module _ {keep chosen quiet : ℕ → Bool} {c : Chunk} {samples : List Float} {c' : Chunk} {samples' : List Float} (w : Without keep chosen quiet c samples c' samples') (i : ℕ) (inside : i < c .frames) where
   pub tracks-same : tracksFrame c samples i ≡ tracksFrame c' samples' i
   unfolding tracksFrame newLine
-  tracks-same = below-sum w i inside levels (track-alike w i inside levels (lit≤ tt)) 0 (open-zero keep chosen)
+  tracks-same = below-sum w i inside trackDepth (track-alike w i inside trackDepth (lit≤ tt)) 0 (open-zero keep chosen)
 
   pub input-same : (s : ℕ) → sendInput c samples s i ≡ sendInput c' samples' s i
-  unfolding sendInput newLine
+  unfolding sendInput withSubSends newLine
   input-same s =
-      below-same w 0 (open-zero keep chosen) (λ line x. withTrackSends levels c samples line s i x) (λ line x. withTrackSends levels c' samples' line s i x)
-      (sends-same w s i inside levels (lit≤ tt)) zeroFrame zeroFrame same-start .same
+      below-same w 0 (open-zero keep chosen) (λ line x. withTrackSends trackDepth c samples line s i x) (λ line x. withTrackSends trackDepth c' samples' line s i x)
+      (sends-same w s i inside trackDepth (lit≤ tt)) zeroFrame zeroFrame same-start .same
 
   sent-same : (s : ℕ) → s < c .«send_count» → (x : Frame) → sent c samples i s x ≡ sent c' samples' i s x
   unfolding sent

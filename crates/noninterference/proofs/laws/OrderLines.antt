@@ -7,7 +7,7 @@ use Prim.Native.Nat.{ℕ, zero, suc, _≤_}
 use native.Mathlib.Omega.{arith}
 use borrow.Author.Tests.{eqb-true}
 use lib.Dec.{eqb}
-use Rattle.scene_tables.specs.Tables.{natural, raised}
+use Rattle.scene_tables.specs.Tables.{natural, raised, orderColumn, orderKind}
 use Rattle.scene.specs.declared.scene.OrderKind.{OrderKind}
 use Rattle.scene.specs.declared.scene.OrderKind.the-variants.{MainVolume, TrackVolume, SendVolume, RouteVolume, Pause, Resume}
 use Rattle.scene_questions.specs.Questions.{Tables, field, indexNamesLine}
@@ -25,7 +25,7 @@ abbrev pub KindRange : ℕ → Type 0
 KindRange z = (raised 0 ≤ z) × (z ≤ raised 5)
 
 -- what holds of each of the six kinds holds of every kind
-pub each-kind : (P : ℕ → Type 0) → P (raised 0) → P (raised 1) → P (raised 2) → P (raised 3) → P (raised 4) → P (raised 5) → (z : ℕ) → KindRange z → P z
+pub each-kind : (P : ℕ → Type 0) → P (orderKind .mainVolume) → P (orderKind .trackVolume) → P (orderKind .sendVolume) → P (orderKind .routeVolume) → P (orderKind .pause) → P (orderKind .resume) → (z : ℕ) → KindRange z → P z
 each-kind P a b c d f g z h = subst P (back z (h .0)) (go (natural z) (below z (h .1)))
   where
     back : (z : ℕ) → raised 0 ≤ z → raised (natural z) ≡ z
@@ -62,7 +62,7 @@ module _ (ts : Tables) (chosen : Choice) (routes-kept : keptRoutes ts chosen ≡
   -- whether an order is left, by its kind and its index
   abbrev removedIndex : ℕ → ℕ → Bool
   removedIndex kind index =
-      cond (eqb kind (raised 2)) false (cond (eqb kind (raised 3)) (namesRemoved (removedRoute ts chosen) index) (namesRemoved (removedTrack ts chosen) index))
+      cond (eqb kind (orderKind .sendVolume)) false (cond (eqb kind (orderKind .routeVolume)) (namesRemoved (removedRoute ts chosen) index) (namesRemoved (removedTrack ts chosen) index))
 
   pub index-kept : (kind index : ℕ) → KindRange kind → indexNamesLine lines kind index ≡ true
       → not (removedIndex kind (natural index)) ≡ keptIndex (keptTracks ts chosen) (sceneOf ts) (kindOf kind) (natural index)
@@ -80,46 +80,46 @@ module _ (ts : Tables) (chosen : Choice) (routes-kept : keptRoutes ts chosen ≡
 
   -- an order counted anew, by its kind
   abbrev countedAs : ℕ → List ℕ → List ℕ
-  countedAs kind row = cond (eqb kind (raised 2)) row (cond (eqb kind (raised 3)) (renumbered (keptRoutes ts chosen) 2 row) (renumbered (keptTracks ts chosen) 2 row))
+  countedAs kind row = cond (eqb kind (orderKind .sendVolume)) row (cond (eqb kind (orderKind .routeVolume)) (renumbered (keptRoutes ts chosen) (orderColumn .index) row) (renumbered (keptTracks ts chosen) (orderColumn .index) row))
 
   -- only the index changes
   other-field : (row : List ℕ) (k : ℕ) → k ≢ 2 → field (renumberedOrder ts chosen row) k ≡ field row k
   unfolding renumberedOrder
-  other-field row k h = go (eqb (field row 1) (raised 2)) (eqb (field row 1) (raised 3))
+  other-field row k h = go (eqb (field row (orderColumn .kind)) (orderKind .sendVolume)) (eqb (field row (orderColumn .kind)) (orderKind .routeVolume))
     where
-      go : (a b : Bool) → field (cond a row (cond b (renumbered (keptRoutes ts chosen) 2 row) (renumbered (keptTracks ts chosen) 2 row))) k ≡ field row k
+      go : (a b : Bool) → field (cond a row (cond b (renumbered (keptRoutes ts chosen) (orderColumn .index) row) (renumbered (keptTracks ts chosen) (orderColumn .index) row))) k ≡ field row k
       go true b = refl
-      go false true = counted-other (keptRoutes ts chosen) 2 row k h
-      go false false = counted-other (keptTracks ts chosen) 2 row k h
+      go false true = counted-other (keptRoutes ts chosen) (orderColumn .index) row k h
+      go false false = counted-other (keptTracks ts chosen) (orderColumn .index) row k h
 
-  index-left : (row : List ℕ) → KindRange (field row 1) → indexNamesLine lines (field row 1) (field row 2) ≡ true
-      → natural (field (renumberedOrder ts chosen row) 2) ≡ newIndex (keptTracks ts chosen) (sceneOf ts) (kindOf (field row 1)) (natural (field row 2))
+  index-left : (row : List ℕ) → KindRange (field row (orderColumn .kind)) → indexNamesLine lines (field row (orderColumn .kind)) (field row (orderColumn .index)) ≡ true
+      → natural (field (renumberedOrder ts chosen row) (orderColumn .index)) ≡ newIndex (keptTracks ts chosen) (sceneOf ts) (kindOf (field row (orderColumn .kind))) (natural (field row (orderColumn .index)))
   unfolding renumberedOrder indexNamesLine kindOf newIndex
   index-left row =
-      let tracks = counted-field (keptTracks ts chosen) 2 row in
+      let tracks = counted-field (keptTracks ts chosen) (orderColumn .index) row in
       each-kind
-      (λ z. indexNamesLine lines z (field row 2) ≡ true → natural (field (countedAs z row) 2) ≡ newIndex (keptTracks ts chosen) (sceneOf ts) (kindOf z) (natural (field row 2)))
-      (λ e. let none : natural (field row 2) ≡ 0 = ap natural (eqb-true (field row 2) (raised 0) e) in tracks ∙ ap (newLine (keptTracks ts chosen)) none ∙ newLine-zero (keptTracks ts chosen) ∙ sym none)
+      (λ z. indexNamesLine lines z (field row (orderColumn .index)) ≡ true → natural (field (countedAs z row) (orderColumn .index)) ≡ newIndex (keptTracks ts chosen) (sceneOf ts) (kindOf z) (natural (field row (orderColumn .index))))
+      (λ e. let none : natural (field row (orderColumn .index)) ≡ 0 = ap natural (eqb-true (field row (orderColumn .index)) (raised 0) e) in tracks ∙ ap (newLine (keptTracks ts chosen)) none ∙ newLine-zero (keptTracks ts chosen) ∙ sym none)
       (λ e. tracks)
       (λ e. refl)
-      (λ e. counted-field (keptRoutes ts chosen) 2 row ∙ ap (λ (keep : ℕ → Bool). newLine keep (natural (field row 2))) routes-kept)
+      (λ e. counted-field (keptRoutes ts chosen) (orderColumn .index) row ∙ ap (λ (keep : ℕ → Bool). newLine keep (natural (field row (orderColumn .index)))) routes-kept)
       (λ e. tracks)
       (λ e. tracks)
-      (field row 1)
+      (field row (orderColumn .kind))
 
-  pub order-left : (row : List ℕ) → KindRange (field row 1) → indexNamesLine lines (field row 1) (field row 2) ≡ true
+  pub order-left : (row : List ℕ) → KindRange (field row (orderColumn .kind)) → indexNamesLine lines (field row (orderColumn .kind)) (field row (orderColumn .index)) ≡ true
       → orderOf (renumberedOrder ts chosen row) ≡ newOrderLine (keptTracks ts chosen) (sceneOf ts) (orderOf row)
   unfolding orderOf
   order-left row h e =
       rw (
-        other-field row 0 (differ tt),
-        other-field row 1 (differ tt),
+        other-field row (orderColumn .block) (differ tt),
+        other-field row (orderColumn .kind) (differ tt),
         index-left row h e,
-        other-field row 3 (differ tt),
-        other-field row 4 (differ tt),
-        other-field row 5 (differ tt),
-        other-field row 6 (differ tt),
-        other-field row 7 (differ tt),
-        other-field row 8 (differ tt),
-        other-field row 9 (differ tt),
+        other-field row (orderColumn .volume) (differ tt),
+        other-field row (orderColumn .clock) (differ tt),
+        other-field row (orderColumn .when) (differ tt),
+        other-field row (orderColumn .part) (differ tt),
+        other-field row (orderColumn .millis) (differ tt),
+        other-field row (orderColumn .easing) (differ tt),
+        other-field row (orderColumn .power) (differ tt),
       )

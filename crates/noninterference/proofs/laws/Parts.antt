@@ -8,14 +8,10 @@ use lib.Ieee.{Float}
 use Rattle.frame.specs.declared.frame.Frame.{Frame}
 use Rattle.chunk.specs.declared.chunk.Chunk.{Chunk}
 use Rattle.chunk.specs.declared.chunk.ChunkTrack.{ChunkTrack}
-use Rattle.frame.specs.Frame.{zeroFrame, added, scaled}
+use Rattle.frame.specs.Frame.{zeroFrame, scaled}
 use Rattle.chunk.specs.Chunk.{amountAt, trackAmplitude, trackRow}
-use Rattle.track.specs.Sound.{withSounds}
-use Rattle.track.specs.Sub.{overSubTracks, trackFrame, withRoutes, withTrackSends}
+use Rattle.track.specs.Sub.{overSubTracks, trackSum, trackFrame, withRoutes, withTrackSends}
 use Rattle.track.proofs.laws.Running.{picked-if}
-
-unfoldable pub trackSum : ℕ → Chunk → List Float → ℕ → ℕ → Frame
-trackSum d c samples line i = withSounds c samples line i (overSubTracks c line (λ below x. added x (trackFrame d c samples below i)) zeroFrame)
 
 unfoldable pub trackWith : ChunkTrack → ℕ → ℕ → Frame → Frame
 trackWith track n i sum = cond (track .advancing) (scaled sum (trackAmplitude track (amountAt i n))) zeroFrame
@@ -29,7 +25,7 @@ line-of : (j : ℕ) → suc j - 1 ≡ j
 line-of j = sub-one (suc j)
 
 pub track-parts : (d : ℕ) (c : Chunk) (samples : List Float) (j i : ℕ) → trackFrame (suc d) c samples (suc j) i ≡ trackWith (trackRow c j) (c .frames) i (trackSum d c samples (suc j) i)
-unfolding trackFrame trackWith trackSum
+unfolding trackFrame trackWith
 track-parts d c samples j i = ap (λ (k : ℕ). trackWith (trackRow c k) (c .frames) i (trackSum d c samples (suc j) i)) (line-of j)
 
 pub send-parts : (d : ℕ) (c : Chunk) (samples : List Float) (j s i : ℕ) (a : Frame) → withTrackSends (suc d) c samples (suc j) s i a ≡ sendsWith d c samples (suc j) s i (trackRow c j) a

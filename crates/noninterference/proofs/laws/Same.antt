@@ -1,18 +1,21 @@
 -- Laws of `same` and of the tests of Alike.antt: lists that pass are equal, and a scene passes beside itself. Assumes nothing.
 use mathlib.Core.Path.{_≡_, refl, sym, ap, ap₂, _∙_}
+use mathlib.Core.Logic.{_≢_}
 use mathlib.Core.Bool.{Bool, true, false≢true}
 use mathlib.Core.List.{List, [], _∷_}
-use Prim.Native.Nat.{ℕ, zero, suc}
+use Prim.Native.Nat.{ℕ, zero, suc, _<_}
 use borrow.Author.Tests.{eqb-true, eq-eqb}
 use lib.Dec.{T, eqb}
-use lib.ListN.{length, getD}
+use lib.ListN.{length, getD, set}
+use lib.Seq.{getD-set-same, getD-set-other}
 use lib.Ieee.{Float, binary32, fits, toBits, ofBits}
 use lib.Ieee.Bits.{ofBits-toBits}
+use Rattle.laws.proofs.laws.Choice.{and-left, and-right, and-same}
 use Rattle.scene_tables.specs.Tables.{head, clocks, tracks, sends, routes, sounds, orders}
 use Rattle.scene_questions.specs.Questions.{Tables, rowsAt}
-use Rattle.scene_questions.proofs.laws.Loops.{and-left, and-right, and-same}
 use Rattle.noninterference.specs.Removed.{Choice}
-use Rattle.noninterference.specs.Alike.{same, sameLines, unplaced, sameTables, framesLeft, sameBits}
+use Rattle.noninterference.specs.Alike.{same, unplaced, sameTables, framesLeft, sameBits}
+use Rattle.noninterference.proofs.laws.LeftLines.{differ}
 
 module _ {X : Type 0} (test : X → X → Bool) where
   pub same-refl : ((x : X) → test x x ≡ true) → (l : List X) → same test l l ≡ true
@@ -68,30 +71,32 @@ pub record SameTables (l m : Tables) : Type 0 where
   pub sounds : unplaced (rowsAt l sounds) ≡ unplaced (rowsAt m sounds)
   pub orders : rowsAt l orders ≡ rowsAt m orders
 
-pub same-tables : (l m : Tables) → sameTables l m ≡ true → SameTables l m
-unfolding sameTables sameLines
-same-tables l m e =
-    let a = and-right (sameLines l m head) _ e in
-    let b = and-right (sameLines l m clocks) _ a in
-    let c = and-right (sameLines l m tracks) _ b in
-    let d = and-right (sameLines l m sends) _ c in
-    let f = and-right (sameLines l m routes) _ d in
-    let g = and-right (sameRows (unplaced (rowsAt l sounds)) (unplaced (rowsAt m sounds))) _ f in
+-- a table other than that of the sounds, and that of the sounds
+row-kept : (l m : Tables) (t : ℕ) (x y : List (List ℕ)) → t ≢ sounds → set l sounds x ≡ set m sounds y → rowsAt l t ≡ rowsAt m t
+row-kept l m t x y h e = sym (getD-set-other l sounds t x [] h) ∙ ap (λ (k : Tables). getD k t []) e ∙ getD-set-other m sounds t y [] h
+
+row-set : (l m : Tables) (x y : List (List ℕ)) → sounds < length l → sounds < length m → set l sounds x ≡ set m sounds y → x ≡ y
+row-set l m x y h k e = sym (getD-set-same l sounds x [] h) ∙ ap (λ (k : Tables). getD k sounds []) e ∙ getD-set-same m sounds y [] k
+
+pub same-tables : (l m : Tables) → sounds < length l → sounds < length m → sameTables l m ≡ true → SameTables l m
+unfolding sameTables
+same-tables l m h k e =
+    let x = unplaced (rowsAt l sounds) in
+    let y = unplaced (rowsAt m sounds) in
+    let q : set l sounds x ≡ set m sounds y = same-eq sameRows rows-eq (set l sounds x) (set m sounds y) e in
     record {
-      head = rows-eq (rowsAt l head) (rowsAt m head) (and-left (sameLines l m head) _ e);
-      clocks = rows-eq (rowsAt l clocks) (rowsAt m clocks) (and-left (sameLines l m clocks) _ a);
-      tracks = rows-eq (rowsAt l tracks) (rowsAt m tracks) (and-left (sameLines l m tracks) _ b);
-      sends = rows-eq (rowsAt l sends) (rowsAt m sends) (and-left (sameLines l m sends) _ c);
-      routes = rows-eq (rowsAt l routes) (rowsAt m routes) (and-left (sameLines l m routes) _ d);
-      sounds = rows-eq (unplaced (rowsAt l sounds)) (unplaced (rowsAt m sounds)) (and-left (sameRows (unplaced (rowsAt l sounds)) (unplaced (rowsAt m sounds))) _ f);
-      orders = rows-eq (rowsAt l orders) (rowsAt m orders) g;
+      head = row-kept l m head x y (differ tt) q;
+      clocks = row-kept l m clocks x y (differ tt) q;
+      tracks = row-kept l m tracks x y (differ tt) q;
+      sends = row-kept l m sends x y (differ tt) q;
+      routes = row-kept l m routes x y (differ tt) q;
+      sounds = row-set l m x y h k q;
+      orders = row-kept l m orders x y (differ tt) q;
     }
 
 pub tables-self : (l : Tables) → sameTables l l ≡ true
-unfolding sameTables sameLines
-tables-self l =
-    let r : (t : ℕ) → sameRows (rowsAt l t) (rowsAt l t) ≡ true = λ t. rows-refl (rowsAt l t) in
-    and-same (r head) (and-same (r clocks) (and-same (r tracks) (and-same (r sends) (and-same (r routes) (and-same (rows-refl (unplaced (rowsAt l sounds))) (r orders))))))
+unfolding sameTables
+tables-self l = same-refl sameRows rows-refl (set l sounds (unplaced (rowsAt l sounds)))
 
 -- ---- samples
 

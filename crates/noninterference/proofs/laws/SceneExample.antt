@@ -23,7 +23,7 @@ use Rattle.scene.specs.declared.scene.OrderKind.{OrderKind}
 use Rattle.scene.specs.declared.scene.OrderKind.the-variants.{TrackVolume, RouteVolume, Pause, Resume}
 use Rattle.accepted.specs.Lines.{trackLine, routeLine, soundLine, orderLine}
 use Rattle.order_lines.specs.Orders.{kindNumber}
-use Rattle.frame.specs.Frame.{frameAt}
+use Rattle.frame.specs.Frame.{sampleFrame}
 use Rattle.noninterference.specs.Removed.{newLine}
 use Rattle.noninterference.proofs.laws.Lines.{keptLine, openLine}
 use Rattle.noninterference.proofs.laws.SceneLeft.{keptRouteLine, keptSoundLine, keptIndex, keptOrder, newIndex, newTrackLine, newRouteLine, newOrderLine, MutedTrack, HeldTrack, SceneLeft}
@@ -144,7 +144,7 @@ held-third =
     }
 
 pub example : SceneLeft kept opened still whole samples rest (one ∷ one ∷ [])
-unfolding rank newLine keptLine openLine keptIndex newIndex frameAt
+unfolding rank newLine keptLine openLine keptIndex newIndex sampleFrame
 example =
     record {
       head = refl;
@@ -161,8 +161,8 @@ example =
       sound-counts = two (λ k. T (keptSoundLine kept opened whole k) → soundLine rest (rank (keptSoundLine kept opened whole) k) .count ≡ soundLine whole k .count) (λ k. absurd k) (λ k. refl);
       sound-frames =
           two (λ k. T (keptSoundLine kept opened whole k) → (i : ℕ) → i < soundLine whole k .count
-          → frameAt (one ∷ one ∷ []) (soundLine rest (rank (keptSoundLine kept opened whole) k) .first + i) ≡ frameAt samples (soundLine whole k .first + i))
-          (λ k. absurd k) (λ k. only (λ i. frameAt (one ∷ one ∷ []) (0 + i) ≡ frameAt samples (1 + i)) refl);
+          → sampleFrame (one ∷ one ∷ []) (soundLine rest (rank (keptSoundLine kept opened whole) k) .first + i) ≡ sampleFrame samples (soundLine whole k .first + i))
+          (λ k. absurd k) (λ k. only (λ i. sampleFrame (one ∷ one ∷ []) (0 + i) ≡ sampleFrame samples (1 + i)) refl);
       order-count = refl;
       orders = five (λ i. T (keptOrder kept whole i) → orderLine rest (rank (keptOrder kept whole) i) ≡ newOrderLine kept whole (orderLine whole i)) (λ k. absurd k) (λ k. refl) (λ k. absurd k) (λ k. refl) (λ k. refl);
       tree = five (λ t. kept t ≡ openLine kept opened (trackLine whole t .parent)) refl refl refl refl refl;

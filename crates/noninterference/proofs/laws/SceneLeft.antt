@@ -1,4 +1,4 @@
--- A scene s, and the scene e that is left of it once what lies inside some silent tracks is removed (01's demand 3 calls those lines struck). Lines are
+-- A scene s, and the scene e that is left of it once what lies inside some silent tracks is removed. Lines are
 -- counted from 0; a line that a field names is counted from 1, and 0 is the mixer or the main track. `keep` says which tracks are kept, `chosen` which of
 -- them lose what lies inside, and `quiet` which have no route, nor has any track below them. Of e and its samples nothing is asked but that they are what
 -- is left.
@@ -19,7 +19,7 @@ use Rattle.scene.specs.declared.scene.OrderLine.{OrderLine}
 use Rattle.scene.specs.declared.scene.OrderKind.{OrderKind}
 use Rattle.scene.specs.declared.scene.OrderKind.the-variants.{MainVolume, TrackVolume, SendVolume, RouteVolume, Pause, Resume}
 use Rattle.accepted.specs.Lines.{clockLine, trackLine, sendLine, routeLine, soundLine, orderLine}
-use Rattle.frame.specs.Frame.{frameAt}
+use Rattle.frame.specs.Frame.{sampleFrame}
 use Rattle.noninterference.specs.Removed.{newLine}
 use Rattle.noninterference.proofs.laws.Lines.{keptLine, openLine}
 
@@ -74,13 +74,13 @@ newOrderLine keep s o =
 
 -- ---- silent tracks
 
--- 01 calls it hushed: the track's volume and every volume that an order gives it are silent, and the tracks right below it are quiet
+-- Muted: the track's volume and every volume that an order gives it are silent, and the tracks right below it are quiet
 pub record MutedTrack (quiet : ℕ → Bool) (s : Scene) (t : ℕ) : Type 0 where
   pub volume : SilentRange (trackLine s t .volume .0)
   pub orders : (i : ℕ) → i < s .«order_count» → orderLine s i .kind ≡ TrackVolume → orderLine s i .index ≡ suc t → SilentRange (orderLine s i .target .0)
   pub below : (j : ℕ) → j < s .«track_count» → trackLine s j .parent ≡ suc t → T (quiet j)
 
--- 01 calls it held: the one order of kinds 4 and 5 that names the track pauses it at once, before the first block
+-- Held: the one pause or resume that names the track pauses it at once, before the first block
 pub record HeldTrack (s : Scene) (t : ℕ) : Type 0 where
   pub line : ℕ
   pub there : line < s .«order_count»
@@ -110,7 +110,7 @@ pub record SceneLeft (keep chosen quiet : ℕ → Bool) (s : Scene) (samples : L
   pub sound-counts : (k : ℕ) → k < s .«sound_count» → T (keptSoundLine keep chosen s k) → soundLine e (rank (keptSoundLine keep chosen s) k) .count ≡ soundLine s k .count
   -- every frame that a sound plays
   pub sound-frames : (k : ℕ) → k < s .«sound_count» → T (keptSoundLine keep chosen s k) → (i : ℕ) → i < soundLine s k .count
-      → frameAt samples' (soundLine e (rank (keptSoundLine keep chosen s) k) .first + i) ≡ frameAt samples (soundLine s k .first + i)
+      → sampleFrame samples' (soundLine e (rank (keptSoundLine keep chosen s) k) .first + i) ≡ sampleFrame samples (soundLine s k .first + i)
   pub order-count : e .«order_count» ≡ rank (keptOrder keep s) (s .«order_count»)
   pub orders : (i : ℕ) → i < s .«order_count» → T (keptOrder keep s i) → orderLine e (rank (keptOrder keep s) i) ≡ newOrderLine keep s (orderLine s i)
   -- a track is kept where it stands right under the mixer, or under a track that is kept and not chosen

@@ -12,18 +12,18 @@ use lib.IntN.{pos, negsuc}
 use lib.Ieee.{Float, binary32, ofInt, div}
 use lib.Ieee.Bits.{is-true}
 use Rattle.laws.specs.Loop.{upto}
-use Rattle.laws.proofs.laws.Choice.{cond-true, true-T}
+use Rattle.laws.proofs.laws.Choice.{cond-true, true-T, and-left, and-right, and-same}
 use Rattle.laws.specs.Kept.{rank}
 use Rattle.laws.proofs.laws.Kept.{rank-removed, rank-lt, rank-inj, kept-or-removed}
 use Rattle.laws.proofs.laws.DecibelRange.{SilentRange, thousandths-silent}
 use Rattle.scene_tables.specs.Bytes.{every}
-use Rattle.scene_tables.specs.Tables.{natural, tracks, routes, orders, raisedMinus, raised}
+use Rattle.scene_tables.specs.Tables.{natural, tracks, routes, orders, raisedMinus, raised, trackColumn, routeColumn, orderColumn, orderKind}
 use Rattle.scene.specs.declared.scene.OrderKind.the-variants.{TrackVolume, Pause, Resume}
 use Rattle.scene.specs.declared.scene.TrackLine.{TrackLine}
 use Rattle.scene.specs.declared.scene.OrderLine.{OrderLine}
 use Rattle.scene_questions.specs.Questions.{Tables, rowsAt, linesAt, cell}
 use Rattle.scene.specs.Scene.{volumeOf, startTimeOf, kindOf, trackOf, orderOf, sceneOf}
-use Rattle.scene_questions.proofs.laws.Loops.{and-left, and-right, and-same, every-at}
+use Rattle.scene_tables.proofs.laws.Every.{every-at}
 use Rattle.accepted.specs.Lines.{trackLine, routeLine, orderLine}
 use Rattle.accepted.proofs.laws.Passed.{TablesPass}
 use Rattle.accepted.proofs.laws.Line.{line-ok}
@@ -78,47 +78,47 @@ one-line f n e a b h k s t = rank-inj f a b s t (none (rank-lt f a n s h) (rank-
 
 -- of a muted track
 record MutedTests (ts : Tables) (t : ℕ) : Type 0 where
-  own : silentVolume (cell (rowsAt ts tracks) t 1) ≡ true
-  given : (i : ℕ) → i < linesAt ts orders → names ts 1 t i ≡ true → silentVolume (cell (rowsAt ts orders) i 3) ≡ true
-  unrouted : (r : ℕ) → r < linesAt ts routes → not (namesRemoved (removedTrack ts (eqb t)) (natural (cell (rowsAt ts routes) r 0))) ≡ true
+  own : silentVolume (cell (rowsAt ts tracks) t (trackColumn .volume)) ≡ true
+  given : (i : ℕ) → i < linesAt ts orders → names ts (orderKind .trackVolume) t i ≡ true → silentVolume (cell (rowsAt ts orders) i (orderColumn .volume)) ≡ true
+  unrouted : (r : ℕ) → r < linesAt ts routes → not (namesRemoved (removedTrack ts (eqb t)) (natural (cell (rowsAt ts routes) r (routeColumn .track)))) ≡ true
 
 muted-tests : (ts : Tables) (t : ℕ) → muted ts t ≡ true → MutedTests ts t
 unfolding muted
 muted-tests ts t e =
-    let own = silentVolume (cell (rowsAt ts tracks) t 1) in
-    let given = every (linesAt ts orders) (λ i. cond (names ts 1 t i) (silentVolume (cell (rowsAt ts orders) i 3)) true) in
+    let own = silentVolume (cell (rowsAt ts tracks) t (trackColumn .volume)) in
+    let given = every (linesAt ts orders) (λ i. cond (names ts (orderKind .trackVolume) t i) (silentVolume (cell (rowsAt ts orders) i (orderColumn .volume))) true) in
     let rest = and-right own _ e in
     record {
       own = and-left own _ e;
-      given = λ i h n. sym (cond-true (names ts 1 t i) (silentVolume (cell (rowsAt ts orders) i 3)) true n) ∙ every-at (linesAt ts orders) _ i h (and-left given _ rest);
+      given = λ i h n. sym (cond-true (names ts (orderKind .trackVolume) t i) (silentVolume (cell (rowsAt ts orders) i (orderColumn .volume))) true n) ∙ every-at (linesAt ts orders) _ i h (and-left given _ rest);
       unrouted = λ r h. every-at (linesAt ts routes) _ r h (and-right given _ rest);
     }
 
 -- of the pause that holds a track
 
 record HoldsTests (ts : Tables) (t i : ℕ) : Type 0 where
-  block : cell (rowsAt ts orders) i 0 ≡ raised 0
-  kind : cell (rowsAt ts orders) i 1 ≡ raised 4
-  index : cell (rowsAt ts orders) i 2 ≡ raised (suc t)
-  clock : cell (rowsAt ts orders) i 4 ≡ raised 0
-  when : cell (rowsAt ts orders) i 5 ≡ raised 0
-  millis : cell (rowsAt ts orders) i 7 ≡ raised 0
+  block : cell (rowsAt ts orders) i (orderColumn .block) ≡ raised 0
+  kind : cell (rowsAt ts orders) i (orderColumn .kind) ≡ orderKind .pause
+  index : cell (rowsAt ts orders) i (orderColumn .index) ≡ raised (suc t)
+  clock : cell (rowsAt ts orders) i (orderColumn .clock) ≡ raised 0
+  when : cell (rowsAt ts orders) i (orderColumn .when) ≡ raised 0
+  millis : cell (rowsAt ts orders) i (orderColumn .millis) ≡ raised 0
 
 holds-tests : (ts : Tables) (t i : ℕ) → isHolding ts t i ≡ true → HoldsTests ts t i
 unfolding isHolding names
 holds-tests ts t i e =
     let at = cell (rowsAt ts orders) i in
-    let named = and-left (names ts 4 t i) _ e in
-    let a = and-right (names ts 4 t i) _ e in
-    let b = and-right (eqb (at 0) (raised 0)) _ a in
-    let c = and-right (eqb (at 4) (raised 0)) _ b in
+    let named = and-left (names ts (orderKind .pause) t i) _ e in
+    let a = and-right (names ts (orderKind .pause) t i) _ e in
+    let b = and-right (eqb (at (orderColumn .block)) (raised 0)) _ a in
+    let c = and-right (eqb (at (orderColumn .clock)) (raised 0)) _ b in
     record {
-      block = eqb-true (at 0) (raised 0) (and-left (eqb (at 0) (raised 0)) _ a);
-      kind = eqb-true (at 1) (raised 4) (and-left (eqb (at 1) (raised 4)) _ named);
-      index = eqb-true (at 2) (raised (suc t)) (and-right (eqb (at 1) (raised 4)) _ named);
-      clock = eqb-true (at 4) (raised 0) (and-left (eqb (at 4) (raised 0)) _ b);
-      when = eqb-true (at 5) (raised 0) (and-left (eqb (at 5) (raised 0)) _ c);
-      millis = eqb-true (at 7) (raised 0) (and-right (eqb (at 5) (raised 0)) _ c);
+      block = eqb-true (at (orderColumn .block)) (raised 0) (and-left (eqb (at (orderColumn .block)) (raised 0)) _ a);
+      kind = eqb-true (at (orderColumn .kind)) (orderKind .pause) (and-left (eqb (at (orderColumn .kind)) (orderKind .pause)) _ named);
+      index = eqb-true (at (orderColumn .index)) (raised (suc t)) (and-right (eqb (at (orderColumn .kind)) (orderKind .pause)) _ named);
+      clock = eqb-true (at (orderColumn .clock)) (raised 0) (and-left (eqb (at (orderColumn .clock)) (raised 0)) _ b);
+      when = eqb-true (at (orderColumn .when)) (raised 0) (and-left (eqb (at (orderColumn .when)) (raised 0)) _ c);
+      millis = eqb-true (at (orderColumn .millis)) (raised 0) (and-right (eqb (at (orderColumn .when)) (raised 0)) _ c);
     }
 
 stopped : (ts : Tables) (samples : List Float) (output : ℕ) → TablesPass ts samples output → (t i : ℕ) → i < linesAt ts orders
@@ -126,8 +126,8 @@ stopped : (ts : Tables) (samples : List Float) (output : ℕ) → TablesPass ts 
 unfolding pausesOrResumes kindNumber
 stopped ts samples output passed t i h kind index =
     ⊎-elim
-    (λ k. or-left (names ts 4 t i) (names ts 5 t i) (named ts samples output passed Pause t i h k index))
-    (λ k. or-right (names ts 4 t i) (names ts 5 t i) (named ts samples output passed Resume t i h k index))
+    (λ k. or-left (names ts (orderKind .pause) t i) (names ts (orderKind .resume) t i) (named ts samples output passed Pause t i h k index))
+    (λ k. or-right (names ts (orderKind .pause) t i) (names ts (orderKind .resume) t i) (named ts samples output passed Resume t i h k index))
     kind
 
 unrouted : (removed : ℕ → Bool) (line : ℕ) {t : ℕ} → line ≡ suc t → not (namesRemoved removed line) ≡ true → removed t ≡ true → ⊥
@@ -151,10 +151,10 @@ module _ (ts : Tables) (samples : List Float) (output : ℕ) (passed : TablesPas
       record {
         volume =
             subst (λ (x : TrackLine). SilentRange (x .volume .0)) (sym (track-at ts t h))
-            (volume-silent _ (line-ok ts (passed .ranges) (passed .references) tracks t (lit< tt) h .fields 1 (lit< tt) .0) (m .own));
+            (volume-silent _ (line-ok ts (passed .ranges) (passed .references) tracks t (lit< tt) h .fields (trackColumn .volume) (lit< tt) .0) (m .own));
         orders = λ i k kind index.
             subst (λ (x : OrderLine). SilentRange (x .target .0)) (sym (order-at ts i k))
-            (volume-silent _ (line-ok ts (passed .ranges) (passed .references) orders i (lit< tt) k .fields 3 (lit< tt) .0)
+            (volume-silent _ (line-ok ts (passed .ranges) (passed .references) orders i (lit< tt) k .fields (orderColumn .volume) (lit< tt) .0)
             (m .given i k (named ts samples output passed TrackVolume t i k kind index)));
         below = λ j k p. below-quiet t j p (or-left (mutedChoice t) (quiet ts chosen t) (and-same c e));
       }
@@ -203,4 +203,4 @@ module _ (ts : Tables) (samples : List Float) (output : ℕ) (passed : TablesPas
       let one = removed-by-one ts mutedChoice t (is-true (quiet ts chosen t) q) in
       let top = one .0 in
       let m = muted-tests ts top (and-right (chosen top) (muted ts top) (one .1)) in
-      unrouted (removedTrack ts (eqb top)) (natural (cell (rowsAt ts routes) r 0)) (sym (route-track-at ts r) ∙ e) (m .unrouted r h) (one .2)
+      unrouted (removedTrack ts (eqb top)) (natural (cell (rowsAt ts routes) r (routeColumn .track))) (sym (route-track-at ts r) ∙ e) (m .unrouted r h) (one .2)

@@ -12,9 +12,9 @@ use lib.Ieee.{Float, nan, binary32, fits}
 use Rattle.laws.specs.Float.{AreF32}
 use Rattle.laws.proofs.laws.Kept.{kept-or-removed}
 use Rattle.laws.specs.Kept.{keptOf}
-use Rattle.scene_tables.specs.Tables.{natural, sounds}
+use Rattle.scene_tables.specs.Tables.{natural, sounds, soundColumn}
 use Rattle.scene_questions.specs.Questions.{Tables, rowsAt, field}
-use Rattle.frame.specs.Frame.{frameAt}
+use Rattle.frame.specs.Frame.{sampleFrame}
 use Rattle.noninterference.specs.Removed.{Choice, keptTracks, keptSounds, leftTables, renumbered}
 use Rattle.noninterference.specs.Alike.{same, unplaced, framesLeft, sameBits}
 use Rattle.noninterference.proofs.laws.Same.{same-at, bits-refl, bits-eq}
@@ -35,7 +35,7 @@ module _ (p : ℕ) (rows rows' : List (List ℕ)) (e : map (λ row. set row p 0)
   same-count = sym (length-map rows' (λ row. set row p 0)) ∙ ap length (sym e) ∙ length-map rows (λ row. set row p 0)
 
 module _ (rows rows' : List (List ℕ)) (e : unplaced rows ≡ unplaced rows') where
-  pub unplaced-field : (r j : ℕ) → j ≢ 1 → field (getD rows' r []) j ≡ field (getD rows r []) j
+  pub unplaced-field : (r j : ℕ) → j ≢ soundColumn .first → field (getD rows' r []) j ≡ field (getD rows r []) j
   unfolding unplaced
   unplaced-field = other-field _ rows rows' e
 
@@ -47,17 +47,17 @@ module _ (ts : Tables) (chosen : Choice) where
   abbrev pub soundsLeft : List (List ℕ)
   soundsLeft = keptOf (keptSounds ts chosen) (rowsAt ts sounds)
 
-  pub sound-row : (r : ℕ) → getD (rowsAt (leftTables ts chosen) sounds) r [] ≡ renumbered (keptTracks ts chosen) 0 (getD soundsLeft r [])
+  pub sound-row : (r : ℕ) → getD (rowsAt (leftTables ts chosen) sounds) r [] ≡ renumbered (keptTracks ts chosen) (soundColumn .track) (getD soundsLeft r [])
   unfolding leftTables renumbered
   sound-row r =
-      ap (λ (l : List (List ℕ)). getD l r []) (left-map (keptSounds ts chosen) (renumbered (keptTracks ts chosen) 0) (rowsAt ts sounds))
-      ∙ List·getD-map (renumbered (keptTracks ts chosen) 0) soundsLeft r []
+      ap (λ (l : List (List ℕ)). getD l r []) (left-map (keptSounds ts chosen) (renumbered (keptTracks ts chosen) (soundColumn .track)) (rowsAt ts sounds))
+      ∙ List·getD-map (renumbered (keptTracks ts chosen) (soundColumn .track)) soundsLeft r []
 
 -- ---- samples
 
 -- the samples of the frames that a sound plays
 abbrev pub played : List Float → List ℕ → List Float
-played samples row = take (2 * natural (field row 2)) (drop (2 * natural (field row 1)) samples)
+played samples row = take (2 * natural (field row (soundColumn .count))) (drop (2 * natural (field row (soundColumn .first))) samples)
 
 pub played-at : (ts : Tables) (chosen : Choice) (samples : List Float) (r : ℕ) → getD (framesLeft ts chosen samples) r [] ≡ played samples (getD (soundsLeft ts chosen) r [])
 unfolding framesLeft
@@ -78,20 +78,20 @@ in-frame : (i n : ℕ) → i < n → (2 * i < 2 * n) × (2 * i + 1 < 2 * n)
 in-frame i n h = (omega arith, omega arith)
 
 -- frames whose samples have the same bits
-module _ (samples samples' : List Float) (fit : AreF32 samples) (fit' : AreF32 samples') (row row' : List ℕ) (counts : natural (field row' 2) ≡ natural (field row 2))
+module _ (samples samples' : List Float) (fit : AreF32 samples) (fit' : AreF32 samples') (row row' : List ℕ) (counts : natural (field row' (soundColumn .count)) ≡ natural (field row (soundColumn .count)))
     (bits : same sameBits (played samples row) (played samples' row') ≡ true) where
-  sample-same : (n : ℕ) → n < 2 * natural (field row 2) → getD samples' (2 * natural (field row' 1) + n) nan ≡ getD samples (2 * natural (field row 1) + n) nan
+  sample-same : (n : ℕ) → n < 2 * natural (field row (soundColumn .count)) → getD samples' (2 * natural (field row' (soundColumn .first)) + n) nan ≡ getD samples (2 * natural (field row (soundColumn .first)) + n) nan
   sample-same n h =
-      let x = getD-take (2 * natural (field row 2)) (drop (2 * natural (field row 1)) samples) n nan h ∙ getD-drop (2 * natural (field row 1)) samples n nan in
-      let y = getD-take (2 * natural (field row' 2)) (drop (2 * natural (field row' 1)) samples') n nan (rw counts h) ∙ getD-drop (2 * natural (field row' 1)) samples' n nan in
+      let x = getD-take (2 * natural (field row (soundColumn .count))) (drop (2 * natural (field row (soundColumn .first))) samples) n nan h ∙ getD-drop (2 * natural (field row (soundColumn .first))) samples n nan in
+      let y = getD-take (2 * natural (field row' (soundColumn .count))) (drop (2 * natural (field row' (soundColumn .first))) samples') n nan (rw counts h) ∙ getD-drop (2 * natural (field row' (soundColumn .first))) samples' n nan in
       let equal = ap₂ sameBits (sym x) (sym y) ∙ same-at sameBits (played samples row) (played samples' row') nan (bits-refl nan) bits n in
-      sym (bits-eq _ _ (fits-anywhere samples fit (2 * natural (field row 1) + n)) (fits-anywhere samples' fit' (2 * natural (field row' 1) + n)) equal)
+      sym (bits-eq _ _ (fits-anywhere samples fit (2 * natural (field row (soundColumn .first)) + n)) (fits-anywhere samples' fit' (2 * natural (field row' (soundColumn .first)) + n)) equal)
 
-  pub frame-same : (i : ℕ) → i < natural (field row 2) → frameAt samples' (natural (field row' 1) + i) ≡ frameAt samples (natural (field row 1) + i)
-  unfolding frameAt
+  pub frame-same : (i : ℕ) → i < natural (field row (soundColumn .count)) → sampleFrame samples' (natural (field row' (soundColumn .first)) + i) ≡ sampleFrame samples (natural (field row (soundColumn .first)) + i)
+  unfolding sampleFrame
   frame-same i h =
-      let first = natural (field row 1) in
-      let first' = natural (field row' 1) in
-      let at = in-frame i (natural (field row 2)) h in
+      let first = natural (field row (soundColumn .first)) in
+      let first' = natural (field row' (soundColumn .first)) in
+      let at = in-frame i (natural (field row (soundColumn .count))) h in
       rw
       (two-more first i .1, two-more first' i .1, two-more first i .0, two-more first' i .0, sample-same (2 * i) (at .0), sample-same (2 * i + 1) (at .1))

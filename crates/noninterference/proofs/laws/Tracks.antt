@@ -20,14 +20,14 @@ use Rattle.frame.specs.Frame.{zeroFrame, added, scaled}
 use Rattle.chunk.specs.Chunk.{amountAt, levelAmplitude, trackAmplitude, trackRow, soundRow}
 use Rattle.chunk.proofs.laws.Chunk.{amount-is}
 use Rattle.track.specs.Sound.{soundFrame, withSounds}
-use Rattle.track.specs.Sub.{overSubTracks, trackFrame}
+use Rattle.track.specs.Sub.{overSubTracks, trackFrame, sumOver, trackSum}
 use Rattle.noninterference.specs.Removed.{newLine}
 use Rattle.noninterference.proofs.laws.Lines.{openLine, open-suc}
 use Rattle.noninterference.proofs.laws.Chunk.{Without}
 use Rattle.frame.specs.Running.{Both}
 use Rattle.track.proofs.laws.Running.{both-zero, zeros, track-fits}
 use Rattle.noninterference.proofs.laws.Frames.{Finite, both-scaled, Alike, same-start, same-added, at-equal}
-use Rattle.noninterference.proofs.laws.Parts.{trackSum, trackWith, track-parts, track-holds}
+use Rattle.noninterference.proofs.laws.Parts.{trackWith, track-parts, track-holds}
 use Rattle.noninterference.proofs.laws.Bounds.{Size, level-within, sum-finite}
 use Rattle.noninterference.proofs.laws.Sounds.{sounds-same, sounds-none}
 use Rattle.noninterference.proofs.laws.Below.{below-same, below-none}
@@ -63,7 +63,7 @@ module _ {keep chosen quiet : ℕ → Bool} {c : Chunk} {samples : List Float} {
   heard k l = record { left = w .sound-values k l i inside .0; right = w .sound-values k l i inside .1 }
 
   sum-none : (d p : ℕ) → T (keep p) → T (chosen p) → trackSum d c' samples' (newLine keep (suc p)) i ≡ zeroFrame
-  unfolding trackSum
+  unfolding sumOver
   sum-none d p s t =
       ap (withSounds c' samples' (newLine keep (suc p)) i) (below-none w p s t (λ below x. added x (trackFrame d c' samples' below i)) zeroFrame)
       ∙ sounds-none w i p s t zeroFrame
@@ -79,7 +79,7 @@ module _ {keep chosen quiet : ℕ → Bool} {c : Chunk} {samples : List Float} {
       (λ j l s x y r. same-added r (track-fits d c samples (suc j) i) (h j l s)) zeroFrame zeroFrame same-start .same
 
   sum-same : (d : ℕ) → ((j : ℕ) → j < c .«track_count» → T (keep j) → TrackAlike d j) → (line : ℕ) → T (openLine keep chosen line) → trackSum d c samples line i ≡ trackSum d c' samples' (newLine keep line) i
-  unfolding trackSum
+  unfolding sumOver
   sum-same d h line t =
       sounds-same w i inside line t (overSubTracks c line (λ below x. added x (trackFrame d c samples below i)) zeroFrame) ∙ ap (withSounds c' samples' (newLine keep line) i) (below-sum d h line t)
 

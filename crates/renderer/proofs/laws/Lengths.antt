@@ -9,13 +9,14 @@ use lib.Dec.{ltb, lit≤}
 use lib.ListN.{length, take, drop, length-append}
 use lib.Ieee.{Float}
 use borrow.Author.Tests.{ltb-true, ltb-false}
+use Rattle.limits.specs.Limits.{blockFramesMost, channelsMost}
 use Rattle.laws.specs.Pieces.{pieces, begun}
 use Rattle.laws.proofs.laws.Pieces.{pieces-zero, pieces-suc, length-pieces, length-elements, part-put, begun-next}
 use Rattle.scene.specs.declared.scene.Head.{Head}
 use Rattle.scene.specs.declared.scene.Scene.{Scene}
 use Rattle.accepted.specs.SceneOk.{SceneOk}
 use Rattle.frame.specs.declared.frame.Frame.{Frame}
-use Rattle.frame.specs.Frame.{frameAt, clamped}
+use Rattle.frame.specs.Frame.{clamped}
 use Rattle.track.specs.Mix.{mixedFrame}
 use Rattle.mixer.specs.declared.mixer.Mixer.{Mixer}
 use Rattle.mixer_chunk.specs.ChunkOf.{chunkOf}
@@ -102,7 +103,7 @@ place-ends h k n c some l e =
     le-trans (le-of-eq (sym (add-mul (k * h .buffer) n c)))
     (mul-le-mul-right c (le-trans (le-of-eq (ap (λ (i : ℕ). k * h .buffer + i) e)) (chunk-ends h k some l)))
 
-pub room : (s : Scene) → SceneOk s → s .head .block * s .head .channels ≤ 4096
+pub room : (s : Scene) → SceneOk s → s .head .block * s .head .channels ≤ blockFramesMost * channelsMost
 room s ok = le-trans (mul-le-mul (ok .block .1) (ok .channels .1)) (lit≤ tt)
 
 -- ---- lengths of samples
@@ -112,11 +113,11 @@ unfolding channelsOf
 length-channels channels a = length-elements (channelAt channels a) channels
 
 -- frame i of a mix as it goes out: clamped, then folded
-abbrev pub framePiece : ℕ → List Float → ℕ → List Float
-framePiece channels mix i = channelsOf channels (clamped (frameAt mix i))
+abbrev pub framePiece : ℕ → (ℕ → Frame) → ℕ → List Float
+framePiece channels mix i = channelsOf channels (clamped (mix i))
 
-pub length-frames : (channels : ℕ) (mix : List Float) (n : ℕ) → length (pieces (framePiece channels mix) n) ≡ n * channels
-length-frames channels mix n = length-pieces (framePiece channels mix) channels n (λ i l. length-channels channels (clamped (frameAt mix i)))
+pub length-frames : (channels : ℕ) (mix : ℕ → Frame) (n : ℕ) → length (pieces (framePiece channels mix) n) ≡ n * channels
+length-frames channels mix n = length-pieces (framePiece channels mix) channels n (λ i l. length-channels channels (clamped (mix i)))
 
 module _ (s : Scene) (samples : List Float) where
   pub length-chunk : (k : ℕ) (m : Mixer) → length (chunkSamples s samples k m) ≡ chunkFrames (s .head) k * s .head .channels

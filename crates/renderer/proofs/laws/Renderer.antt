@@ -2,12 +2,13 @@
 use mathlib.Core.Path.{_≡_, sym, ap, _∙_, subst}
 use mathlib.Core.List.{List, _++_}
 use Prim.Native.Nat.{ℕ, suc, _+_, _-_, _*_, _^_, _≤_, _<_}
-use native.Mathlib.Nat.{le-trans, le-of-eq, lt-of-le-of-lt, mul-le-mul, add-suc, add-zero, zero-mul}
+use native.Mathlib.Nat.{le-refl, le-trans, le-of-eq, lt-of-le-of-lt, mul-le-mul, add-suc, add-zero, zero-mul}
 use native.Mathlib.Omega.{arith}
 use lib.Dec.{T, le→leb, lit<, lit≤}
 use lib.IntN.{pos}
 use lib.ListN.{length, take, drop}
 use lib.Ieee.{Float, binary64, prec, inFloat}
+use Rattle.limits.specs.Limits.{chunkFramesMost, blockFramesMost, channelsMost}
 use Rattle.laws.proofs.laws.Loop.{upto-zero, upto-turn, upto-holds}
 use Rattle.laws.specs.Pieces.{pieces, begun}
 use Rattle.laws.proofs.laws.Pieces.{pieces-cong}
@@ -22,8 +23,9 @@ use Rattle.scene.specs.declared.scene.Scene.{Scene}
 use Rattle.accepted.specs.SceneOk.{SceneOk, SamplesOk}
 use Rattle.frame.specs.declared.frame.Frame.{Frame}
 use Rattle.chunk.specs.declared.chunk.Chunk.{Chunk}
-use Rattle.frame.specs.Frame.{frameAt, withFrames, clamped}
-use Rattle.frame.proofs.laws.Frame.{withFrames-at}
+use Rattle.frame.specs.Frame.{clamped}
+use Rattle.frame.specs.Layout.{scratch, frameAt, withFrames}
+use Rattle.frame.proofs.laws.Layout.{first-at}
 use Rattle.chunk.specs.Chunk.{ChunkOk}
 use Rattle.track.specs.Mix.{mixedFrame, mixedSet}
 use Rattle.mixer.specs.declared.mixer.Mixer.{Mixer}
@@ -49,13 +51,13 @@ abbrev pub chunkSeconds : Scene → ℕ → Float
 chunkSeconds s k = chunkTime (s .head .rate) (chunkFrames (s .head) k)
 
 module _ (s : Scene) (k : ℕ) (ok : SceneOk s) where
-  fast : 256 ≤ s .head .rate
+  fast : chunkFramesMost ≤ s .head .rate
   fast = le-trans (lit≤ tt) (ok .rate .0)
 
   held : s .head .rate < 2 ^ 53
   held = lt-of-le-of-lt (ok .rate .1) (lit< tt)
 
-  pub few-frames : chunkFrames (s .head) k ≤ 256
+  pub few-frames : chunkFrames (s .head) k ≤ chunkFramesMost
   few-frames = le-trans (frames-most (s .head) k) (ok .buffer .1)
 
   pub seconds-step : IsStep (chunkSeconds s k)
@@ -98,7 +100,7 @@ module _ (s : Scene) (ok : SceneOk s) where
       (λ i l x g. subst (λ (n : ℕ). MixerOk s n (blockDone s i x)) (next-block i (chunkCount (s .head))) (block-ok i (i * chunkCount (s .head)) x g))
 
   -- a show has no more chunks than clocks can count
-  all-chunks : (b q n B : ℕ) → b < n → n ≤ 1024 → q ≤ B → B ≤ 512 → b * q + q ≤ 2 ^ 20
+  all-chunks : (b q n B : ℕ) → b < n → n ≤ 1024 → q ≤ B → B ≤ blockFramesMost → b * q + q ≤ 2 ^ 20
   all-chunks b q n B h k l r = le-trans (le-of-eq (next-block b q)) (le-trans (mul-le-mul (le-trans h k) (le-trans l r)) (lit≤ tt))
 
   pub chunks-few : (b : ℕ) → b < s .head .blocks → b * chunkCount (s .head) + chunkCount (s .head) ≤ 2 ^ 20
@@ -121,7 +123,7 @@ module _ (s : Scene) (k : ℕ) {n : ℕ} {dt : Float} (is : n ≡ chunkFrames (s
     pub moved-ok : {moved : Mixer} → moved ≡ mixerUpdate s dt m → MixerOk s (suc c) moved
     moved-ok e = subst (MixerOk s (suc c)) (sym (moved-is m e)) (in-chunk-ok s ok k c m h)
 
-pub few-at : (s : Scene) (k : ℕ) {n : ℕ} → SceneOk s → n ≡ chunkFrames (s .head) k → n ≤ 256
+pub few-at : (s : Scene) (k : ℕ) {n : ℕ} → SceneOk s → n ≡ chunkFrames (s .head) k → n ≤ chunkFramesMost
 few-at s k ok e = le-trans (le-of-eq e) (few-frames s k ok)
 
 pub frames-of : (s : Scene) (n : ℕ) (m : Mixer) {chunk : Chunk} → chunk ≡ chunkOf s n m → chunk .frames ≡ n
@@ -132,15 +134,16 @@ pub chunk-of-ok : (s : Scene) (samples : List Float) (k c : ℕ) (m : Mixer) {n 
 chunk-of-ok s samples k c m {n} ok sok h is e = subst (λ (x : Chunk). ChunkOk x samples) (sym e) (chunk-ok s samples c n m ok sok h (few-at s k ok is))
 
 -- what is written of a mixed chunk
-pub mix-written : (channels n : ℕ) (chunk : Chunk) (samples mix₀ : List Float) {mix : List Float} → chunk .frames ≡ n → 2 * n ≤ length mix₀ → mix ≡ withFrames (mixedSet chunk samples) (chunk .frames) mix₀ → pieces (framePiece channels mix) n ≡ pieces (λ i. channelsOf channels (clamped (mixedFrame chunk samples i))) n
+pub mix-written : (channels n : ℕ) (chunk : Chunk) (samples mix₀ : List Float) {mix : List Float} → chunk .frames ≡ n → 2 * n ≤ length mix₀ → mix ≡ withFrames (scratch 0 (chunk .frames)) (mixedSet chunk samples) mix₀ → pieces (framePiece channels (frameAt (scratch 0 n) mix)) n ≡ pieces (λ i. channelsOf channels (clamped (mixedFrame chunk samples i))) n
 unfolding mixedSet
 mix-written channels n chunk samples mix₀ {mix} frames long q =
-    pieces-cong (framePiece channels mix) (λ i. channelsOf channels (clamped (mixedFrame chunk samples i))) n
+    pieces-cong (framePiece channels (frameAt (scratch 0 n) mix)) (λ i. channelsOf channels (clamped (mixedFrame chunk samples i))) n
     (λ i l. ap (λ (a : Frame). channelsOf channels (clamped a))
-    (ap (λ (x : List Float). frameAt x i) q ∙ withFrames-at (mixedSet chunk samples) (chunk .frames) mix₀ i (subst (λ (j : ℕ). i < j) (sym frames) l) (omega arith)))
+    (ap (λ (x : List Float). frameAt (scratch 0 n) x i) (q ∙ ap (λ (j : ℕ). withFrames (scratch 0 j) (mixedSet chunk samples) mix₀) frames)
+    ∙ first-at (scratch 0 n) (mixedSet chunk samples) n mix₀ i (le-refl n) (omega (arith, long)) l))
 
 module _ (s : Scene) (samples : List Float) (k : ℕ) (m : Mixer) {n : ℕ} {chunk : Chunk} (is : n ≡ chunkFrames (s .head) k) (e : chunk ≡ chunkOf s n m) where
-  pub chunk-written : (mix₀ : List Float) {mix : List Float} → 2 * n ≤ length mix₀ → mix ≡ withFrames (mixedSet chunk samples) (chunk .frames) mix₀ → pieces (framePiece (s .head .channels) mix) n ≡ chunkSamples s samples k m
+  pub chunk-written : (mix₀ : List Float) {mix : List Float} → 2 * n ≤ length mix₀ → mix ≡ withFrames (scratch 0 (chunk .frames)) (mixedSet chunk samples) mix₀ → pieces (framePiece (s .head .channels) (frameAt (scratch 0 n) mix)) n ≡ chunkSamples s samples k m
   unfolding chunkSamples
   chunk-written mix₀ long q =
       mix-written (s .head .channels) n chunk samples mix₀ (frames-of s n m e) long q
@@ -160,7 +163,7 @@ module _ (s : Scene) (ok : SceneOk s) {k count : ℕ} (l : k < count) (all : cou
   pub turn-ends : {n : ℕ} → n ≡ chunkFrames (s .head) k → k * s .head .buffer * s .head .channels + n * s .head .channels ≤ s .head .block * s .head .channels
   turn-ends {n} is = place-ends (s .head) k n (s .head .channels) (ok .buffer .0) in-block is
 
-  pub turn-fits : {n : ℕ} → n ≡ chunkFrames (s .head) k → k * s .head .buffer * s .head .channels + n * s .head .channels ≤ 4096
+  pub turn-fits : {n : ℕ} → n ≡ chunkFrames (s .head) k → k * s .head .buffer * s .head .channels + n * s .head .channels ≤ blockFramesMost * channelsMost
   turn-fits is = le-trans (turn-ends is) (room s ok)
 
 -- a turn

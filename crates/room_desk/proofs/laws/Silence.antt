@@ -1,5 +1,5 @@
--- DEMAND 3. Two accepted scenes that differ only inside muted or held tracks have outputs equal in every bit: one theorem over all pairs and all choices,
--- whatever the outputs held before. Its words are defined in `noninterference`: Removed (01: struck), Silent (01: hushed, held), Alike. Assumes nothing.
+-- What lies inside silent tracks is not heard (docs/SILENCE.md). Two accepted scenes that differ only inside muted or held tracks have outputs equal in every bit: one theorem over all pairs and all choices,
+-- whatever the outputs held before. Its words are defined in `noninterference`: Removed, Silent (muted, held), Alike. Assumes nothing.
 use mathlib.Core.Path.{_≡_, sym, ap, _∙_}
 use mathlib.Core.Bool.{true, cond}
 use mathlib.Core.List.{List}

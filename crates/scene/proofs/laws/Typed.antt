@@ -9,7 +9,7 @@ use native.Mathlib.Omega.{arith}
 use borrow.Author.Tests.{eq-eqb, ne-eqb, le-leb, lt-leb}
 use lib.Dec.{eqb, ltb}
 use lib.IntN.{pos, negsuc}
-use lib.ListN.{length, getD, take, drop, set, replicate, length-map}
+use lib.ListN.{length, getD, take, drop, set, replicate, length-map, drop-of-length-le}
 use lib.Seq.{getD-take, getD-drop, take-suc, take-all, set-at, length-take-le}
 use lib.Ieee.{Float, Format, inf, binary32, binary64, ofBits, ofInt, div, neg, odd, units, round, low, emax, prec}
 use Rattle.decibels.specs.declared.decibels.Decibels.{Decibels}
@@ -27,9 +27,9 @@ use Rattle.scene.specs.declared.scene.SendLine.{SendLine}
 use Rattle.scene.specs.declared.scene.RouteLine.{RouteLine}
 use Rattle.scene.specs.declared.scene.SoundLine.{SoundLine}
 use Rattle.scene.specs.declared.scene.OrderLine.{OrderLine}
-use Rattle.scene_tables.specs.Tables.{natural}
+use Rattle.scene_tables.specs.Tables.{raised, natural, tableAt, width, head, clocks, tracks, sends, routes, sounds, orders, headColumn, clockColumn, trackColumn, sendColumn, routeColumn, soundColumn, orderColumn}
 use Rattle.scene_questions.specs.Questions.{field, speedOf}
-use Rattle.scene_questions.specs.Places.{rowsIn}
+use Rattle.scene_questions.specs.Places.{cut, rowsIn}
 use Rattle.scene.specs.Scene.{volumeOf, kindOf, clockTimeOf, startTimeOf, easingOf, headOf, clockOf, trackOf, sendOf, routeOf, soundOf, orderOf, filled}
 use Rattle.scene_questions.proofs.laws.Places.{rows-length, row-at}
 
@@ -85,34 +85,34 @@ unfolding clockTimeOf
 clock-time-is clock when part n k t p e f g h = rw (f, e, g, h, thousand64)
 
 module _ (clock when part : ℕ) where
-  pub start-clock : (t : Time) → (clock ≡ 2147483648 → ⊥) → t ≡ clockTimeOf clock when part → ClockTime t ≡ startTimeOf clock when part
+  pub start-clock : (t : Time) → (clock ≡ raised 0 → ⊥) → t ≡ clockTimeOf clock when part → ClockTime t ≡ startTimeOf clock when part
   unfolding startTimeOf
-  start-clock t h e = rw (ne-eqb clock 2147483648 h, e)
+  start-clock t h e = rw (ne-eqb clock (raised 0) h, e)
 
-  pub start-now : clock ≡ 2147483648 → when ≡ 2147483648 → Immediate ≡ startTimeOf clock when part
+  pub start-now : clock ≡ raised 0 → when ≡ raised 0 → Immediate ≡ startTimeOf clock when part
   unfolding startTimeOf
-  start-now h k = rw (eq-eqb clock 2147483648 h, eq-eqb when 2147483648 k)
+  start-now h k = rw (eq-eqb clock (raised 0) h, eq-eqb when (raised 0) k)
 
-  pub start-later : (n : ℕ) → clock ≡ 2147483648 → (when ≡ 2147483648 → ⊥) → n ≡ natural when → Delayed (n * 1000000) ≡ startTimeOf clock when part
+  pub start-later : (n : ℕ) → clock ≡ raised 0 → (when ≡ raised 0 → ⊥) → n ≡ natural when → Delayed (n * 1000000) ≡ startTimeOf clock when part
   unfolding startTimeOf
-  start-later n h k e = rw (eq-eqb clock 2147483648 h, ne-eqb when 2147483648 k, e)
+  start-later n h k e = rw (eq-eqb clock (raised 0) h, ne-eqb when (raised 0) k, e)
 
 module _ (easing power n : ℕ) (is : n ≡ natural power) where
-  pub easing-linear : easing ≡ 2147483648 → Linear ≡ easingOf easing power
+  pub easing-linear : easing ≡ raised 0 → Linear ≡ easingOf easing power
   unfolding easingOf
-  easing-linear h = rw (eq-eqb easing 2147483648 h)
+  easing-linear h = rw (eq-eqb easing (raised 0) h)
 
-  pub easing-in : (easing ≡ 2147483648 → ⊥) → easing ≡ 2147483649 → InPowi n ≡ easingOf easing power
+  pub easing-in : (easing ≡ raised 0 → ⊥) → easing ≡ raised 1 → InPowi n ≡ easingOf easing power
   unfolding easingOf
-  easing-in a h = rw (ne-eqb easing 2147483648 a, eq-eqb easing 2147483649 h, is)
+  easing-in a h = rw (ne-eqb easing (raised 0) a, eq-eqb easing (raised 1) h, is)
 
-  pub easing-out : (easing ≡ 2147483648 → ⊥) → (easing ≡ 2147483649 → ⊥) → easing ≡ 2147483650 → OutPowi n ≡ easingOf easing power
+  pub easing-out : (easing ≡ raised 0 → ⊥) → (easing ≡ raised 1 → ⊥) → easing ≡ raised 2 → OutPowi n ≡ easingOf easing power
   unfolding easingOf
-  easing-out a b h = rw (ne-eqb easing 2147483648 a, ne-eqb easing 2147483649 b, eq-eqb easing 2147483650 h, is)
+  easing-out a b h = rw (ne-eqb easing (raised 0) a, ne-eqb easing (raised 1) b, eq-eqb easing (raised 2) h, is)
 
-  pub easing-in-out : (easing ≡ 2147483648 → ⊥) → (easing ≡ 2147483649 → ⊥) → (easing ≡ 2147483650 → ⊥) → InOutPowi n ≡ easingOf easing power
+  pub easing-in-out : (easing ≡ raised 0 → ⊥) → (easing ≡ raised 1 → ⊥) → (easing ≡ raised 2 → ⊥) → InOutPowi n ≡ easingOf easing power
   unfolding easingOf
-  easing-in-out a b d = rw (ne-eqb easing 2147483648 a, ne-eqb easing 2147483649 b, ne-eqb easing 2147483650 d, is)
+  easing-in-out a b d = rw (ne-eqb easing (raised 0) a, ne-eqb easing (raised 1) b, ne-eqb easing (raised 2) d, is)
 
 -- ---- fields of a line, by place
 
@@ -121,73 +121,86 @@ field-at v a w j h = getD-take w (drop a v) j 0 h ∙ getD-drop a v j 0
 
 -- ---- the lines, each field from its place
 
-pub head-is : (v : List ℕ) (a x0 x1 x2 x3 x4 x5 : ℕ) (r0 : ℕ) (r1 : ℕ) (r2 : ℕ) (r3 : ℕ) (r4 : ℕ) (r5 : Decibels) → x0 ≡ getD v (a + 0) 0 → x1 ≡ getD v (a + 1) 0 → x2 ≡ getD v (a + 2) 0 → x3 ≡ getD v (a + 3) 0 → x4 ≡ getD v (a + 4) 0 → x5 ≡ getD v (a + 5) 0 → r0 ≡ natural x0 → r1 ≡ natural x1 → r2 ≡ natural x2 → r3 ≡ natural x3 → r4 ≡ natural x4 → r5 ≡ volumeOf x5
-    → _≡_ {A = Head} (record { rate = r0; channels = r1; buffer = r2; block = r3; blocks = r4; volume = r5 }) (headOf (take 6 (drop a v)))
+pub head-is : (v : List ℕ) (a x0 x1 x2 x3 x4 x5 : ℕ) (r0 : ℕ) (r1 : ℕ) (r2 : ℕ) (r3 : ℕ) (r4 : ℕ) (r5 : Decibels) → x0 ≡ getD v (a + headColumn .rate) 0 → x1 ≡ getD v (a + headColumn .channels) 0 → x2 ≡ getD v (a + headColumn .buffer) 0 → x3 ≡ getD v (a + headColumn .block) 0 → x4 ≡ getD v (a + headColumn .blocks) 0 → x5 ≡ getD v (a + headColumn .volume) 0 → r0 ≡ natural x0 → r1 ≡ natural x1 → r2 ≡ natural x2 → r3 ≡ natural x3 → r4 ≡ natural x4 → r5 ≡ volumeOf x5
+    → _≡_ {A = Head} (record { rate = r0; channels = r1; buffer = r2; block = r3; blocks = r4; volume = r5 }) (headOf (take (width (tableAt head)) (drop a v)))
 unfolding headOf
 head-is v a x0 x1 x2 x3 x4 x5 r0 r1 r2 r3 r4 r5 e0 e1 e2 e3 e4 e5 p0 p1 p2 p3 p4 p5 =
-    rw (field-at v a 6 0 (omega arith), field-at v a 6 1 (omega arith), field-at v a 6 2 (omega arith), field-at v a 6 3 (omega arith), field-at v a 6 4 (omega arith), field-at v a 6 5 (omega arith), ← e0, ← e1, ← e2, ← e3, ← e4, ← e5, p0, p1, p2, p3, p4, p5)
+    rw (field-at v a (width (tableAt head)) (headColumn .rate) (omega arith), field-at v a (width (tableAt head)) (headColumn .channels) (omega arith), field-at v a (width (tableAt head)) (headColumn .buffer) (omega arith), field-at v a (width (tableAt head)) (headColumn .block) (omega arith), field-at v a (width (tableAt head)) (headColumn .blocks) (omega arith), field-at v a (width (tableAt head)) (headColumn .volume) (omega arith), ← e0, ← e1, ← e2, ← e3, ← e4, ← e5, p0, p1, p2, p3, p4, p5)
 
-pub clock-is : (v : List ℕ) (a x0 x1 x2 : ℕ) (r0 : ClockSpeed) → x0 ≡ getD v (a + 0) 0 → x1 ≡ getD v (a + 1) 0 → x2 ≡ getD v (a + 2) 0 → r0 ≡ speedOf x0 x1
-    → _≡_ {A = ClockLine} (record { speed = r0; ticking = eqb x2 2147483649 }) (clockOf (take 3 (drop a v)))
+pub clock-is : (v : List ℕ) (a x0 x1 x2 : ℕ) (r0 : ClockSpeed) → x0 ≡ getD v (a + clockColumn .unit) 0 → x1 ≡ getD v (a + clockColumn .speed) 0 → x2 ≡ getD v (a + clockColumn .ticking) 0 → r0 ≡ speedOf x0 x1
+    → _≡_ {A = ClockLine} (record { speed = r0; ticking = eqb x2 (raised 1) }) (clockOf (take (width (tableAt clocks)) (drop a v)))
 unfolding clockOf
 clock-is v a x0 x1 x2 r0 e0 e1 e2 p0 =
-    rw (field-at v a 3 0 (omega arith), field-at v a 3 1 (omega arith), field-at v a 3 2 (omega arith), ← e0, ← e1, ← e2, p0)
+    rw (field-at v a (width (tableAt clocks)) (clockColumn .unit) (omega arith), field-at v a (width (tableAt clocks)) (clockColumn .speed) (omega arith), field-at v a (width (tableAt clocks)) (clockColumn .ticking) (omega arith), ← e0, ← e1, ← e2, p0)
 
-pub track-is : (v : List ℕ) (a x0 x1 : ℕ) (r0 : ℕ) (r1 : Decibels) → x0 ≡ getD v (a + 0) 0 → x1 ≡ getD v (a + 1) 0 → r0 ≡ natural x0 → r1 ≡ volumeOf x1
-    → _≡_ {A = TrackLine} (record { parent = r0; volume = r1 }) (trackOf (take 2 (drop a v)))
+pub track-is : (v : List ℕ) (a x0 x1 : ℕ) (r0 : ℕ) (r1 : Decibels) → x0 ≡ getD v (a + trackColumn .parent) 0 → x1 ≡ getD v (a + trackColumn .volume) 0 → r0 ≡ natural x0 → r1 ≡ volumeOf x1
+    → _≡_ {A = TrackLine} (record { parent = r0; volume = r1 }) (trackOf (take (width (tableAt tracks)) (drop a v)))
 unfolding trackOf
 track-is v a x0 x1 r0 r1 e0 e1 p0 p1 =
-    rw (field-at v a 2 0 (omega arith), field-at v a 2 1 (omega arith), ← e0, ← e1, p0, p1)
+    rw (field-at v a (width (tableAt tracks)) (trackColumn .parent) (omega arith), field-at v a (width (tableAt tracks)) (trackColumn .volume) (omega arith), ← e0, ← e1, p0, p1)
 
-pub send-is : (v : List ℕ) (a x0 : ℕ) (r0 : Decibels) → x0 ≡ getD v (a + 0) 0 → r0 ≡ volumeOf x0
-    → _≡_ {A = SendLine} (record { volume = r0 }) (sendOf (take 1 (drop a v)))
+pub send-is : (v : List ℕ) (a x0 : ℕ) (r0 : Decibels) → x0 ≡ getD v (a + sendColumn .volume) 0 → r0 ≡ volumeOf x0
+    → _≡_ {A = SendLine} (record { volume = r0 }) (sendOf (take (width (tableAt sends)) (drop a v)))
 unfolding sendOf
 send-is v a x0 r0 e0 p0 =
-    rw (field-at v a 1 0 (omega arith), ← e0, p0)
+    rw (field-at v a (width (tableAt sends)) (sendColumn .volume) (omega arith), ← e0, p0)
 
-pub route-is : (v : List ℕ) (a x0 x1 x2 : ℕ) (r0 : ℕ) (r1 : ℕ) (r2 : Decibels) → x0 ≡ getD v (a + 0) 0 → x1 ≡ getD v (a + 1) 0 → x2 ≡ getD v (a + 2) 0 → r0 ≡ natural x0 → r1 ≡ natural x1 → r2 ≡ volumeOf x2
-    → _≡_ {A = RouteLine} (record { track = r0; send = r1; volume = r2 }) (routeOf (take 3 (drop a v)))
+pub route-is : (v : List ℕ) (a x0 x1 x2 : ℕ) (r0 : ℕ) (r1 : ℕ) (r2 : Decibels) → x0 ≡ getD v (a + routeColumn .track) 0 → x1 ≡ getD v (a + routeColumn .send) 0 → x2 ≡ getD v (a + routeColumn .volume) 0 → r0 ≡ natural x0 → r1 ≡ natural x1 → r2 ≡ volumeOf x2
+    → _≡_ {A = RouteLine} (record { track = r0; send = r1; volume = r2 }) (routeOf (take (width (tableAt routes)) (drop a v)))
 unfolding routeOf
 route-is v a x0 x1 x2 r0 r1 r2 e0 e1 e2 p0 p1 p2 =
-    rw (field-at v a 3 0 (omega arith), field-at v a 3 1 (omega arith), field-at v a 3 2 (omega arith), ← e0, ← e1, ← e2, p0, p1, p2)
+    rw (field-at v a (width (tableAt routes)) (routeColumn .track) (omega arith), field-at v a (width (tableAt routes)) (routeColumn .send) (omega arith), field-at v a (width (tableAt routes)) (routeColumn .volume) (omega arith), ← e0, ← e1, ← e2, p0, p1, p2)
 
-pub sound-is : (v : List ℕ) (a x0 x1 x2 : ℕ) (r0 : ℕ) (r1 : ℕ) (r2 : ℕ) → x0 ≡ getD v (a + 0) 0 → x1 ≡ getD v (a + 1) 0 → x2 ≡ getD v (a + 2) 0 → r0 ≡ natural x0 → r1 ≡ natural x1 → r2 ≡ natural x2
-    → _≡_ {A = SoundLine} (record { track = r0; first = r1; count = r2 }) (soundOf (take 3 (drop a v)))
+pub sound-is : (v : List ℕ) (a x0 x1 x2 : ℕ) (r0 : ℕ) (r1 : ℕ) (r2 : ℕ) → x0 ≡ getD v (a + soundColumn .track) 0 → x1 ≡ getD v (a + soundColumn .first) 0 → x2 ≡ getD v (a + soundColumn .count) 0 → r0 ≡ natural x0 → r1 ≡ natural x1 → r2 ≡ natural x2
+    → _≡_ {A = SoundLine} (record { track = r0; first = r1; count = r2 }) (soundOf (take (width (tableAt sounds)) (drop a v)))
 unfolding soundOf
 sound-is v a x0 x1 x2 r0 r1 r2 e0 e1 e2 p0 p1 p2 =
-    rw (field-at v a 3 0 (omega arith), field-at v a 3 1 (omega arith), field-at v a 3 2 (omega arith), ← e0, ← e1, ← e2, p0, p1, p2)
+    rw (field-at v a (width (tableAt sounds)) (soundColumn .track) (omega arith), field-at v a (width (tableAt sounds)) (soundColumn .first) (omega arith), field-at v a (width (tableAt sounds)) (soundColumn .count) (omega arith), ← e0, ← e1, ← e2, p0, p1, p2)
 
-pub order-is : (v : List ℕ) (a x0 x1 x2 x3 x4 x5 x6 x7 x8 x9 : ℕ) (r0 : ℕ) (r1 : OrderKind) (r2 : ℕ) (r3 : Decibels) (r4 : StartTime) (r5 : ℕ) (r6 : Easing) → x0 ≡ getD v (a + 0) 0 → x1 ≡ getD v (a + 1) 0 → x2 ≡ getD v (a + 2) 0 → x3 ≡ getD v (a + 3) 0 → x4 ≡ getD v (a + 4) 0 → x5 ≡ getD v (a + 5) 0 → x6 ≡ getD v (a + 6) 0 → x7 ≡ getD v (a + 7) 0 → x8 ≡ getD v (a + 8) 0 → x9 ≡ getD v (a + 9) 0 → r0 ≡ natural x0 → r1 ≡ kindOf x1 → r2 ≡ natural x2 → r3 ≡ volumeOf x3 → r4 ≡ startTimeOf x4 x5 x6 → r5 ≡ natural x7 → r6 ≡ easingOf x8 x9
-    → _≡_ {A = OrderLine} (record { block = r0; kind = r1; index = r2; target = r3; «start_time» = r4; millis = r5; easing = r6 }) (orderOf (take 10 (drop a v)))
+pub order-is : (v : List ℕ) (a x0 x1 x2 x3 x4 x5 x6 x7 x8 x9 : ℕ) (r0 : ℕ) (r1 : OrderKind) (r2 : ℕ) (r3 : Decibels) (r4 : StartTime) (r5 : ℕ) (r6 : Easing) → x0 ≡ getD v (a + orderColumn .block) 0 → x1 ≡ getD v (a + orderColumn .kind) 0 → x2 ≡ getD v (a + orderColumn .index) 0 → x3 ≡ getD v (a + orderColumn .volume) 0 → x4 ≡ getD v (a + orderColumn .clock) 0 → x5 ≡ getD v (a + orderColumn .when) 0 → x6 ≡ getD v (a + orderColumn .part) 0 → x7 ≡ getD v (a + orderColumn .millis) 0 → x8 ≡ getD v (a + orderColumn .easing) 0 → x9 ≡ getD v (a + orderColumn .power) 0 → r0 ≡ natural x0 → r1 ≡ kindOf x1 → r2 ≡ natural x2 → r3 ≡ volumeOf x3 → r4 ≡ startTimeOf x4 x5 x6 → r5 ≡ natural x7 → r6 ≡ easingOf x8 x9
+    → _≡_ {A = OrderLine} (record { block = r0; kind = r1; index = r2; target = r3; «start_time» = r4; millis = r5; easing = r6 }) (orderOf (take (width (tableAt orders)) (drop a v)))
 unfolding orderOf
 order-is v a x0 x1 x2 x3 x4 x5 x6 x7 x8 x9 r0 r1 r2 r3 r4 r5 r6 e0 e1 e2 e3 e4 e5 e6 e7 e8 e9 p0 p1 p2 p3 p4 p5 p6 =
-    rw (field-at v a 10 0 (omega arith), field-at v a 10 1 (omega arith), field-at v a 10 2 (omega arith), field-at v a 10 3 (omega arith), field-at v a 10 4 (omega arith), field-at v a 10 5 (omega arith), field-at v a 10 6 (omega arith), field-at v a 10 7 (omega arith), field-at v a 10 8 (omega arith), field-at v a 10 9 (omega arith), ← e0, ← e1, ← e2, ← e3, ← e4, ← e5, ← e6, ← e7, ← e8, ← e9, p0, p1, p2, p3, p4, p5, p6)
+    rw (field-at v a (width (tableAt orders)) (orderColumn .block) (omega arith), field-at v a (width (tableAt orders)) (orderColumn .kind) (omega arith), field-at v a (width (tableAt orders)) (orderColumn .index) (omega arith), field-at v a (width (tableAt orders)) (orderColumn .volume) (omega arith), field-at v a (width (tableAt orders)) (orderColumn .clock) (omega arith), field-at v a (width (tableAt orders)) (orderColumn .when) (omega arith), field-at v a (width (tableAt orders)) (orderColumn .part) (omega arith), field-at v a (width (tableAt orders)) (orderColumn .millis) (omega arith), field-at v a (width (tableAt orders)) (orderColumn .easing) (omega arith), field-at v a (width (tableAt orders)) (orderColumn .power) (omega arith), ← e0, ← e1, ← e2, ← e3, ← e4, ← e5, ← e6, ← e7, ← e8, ← e9, p0, p1, p2, p3, p4, p5, p6)
 
 -- ---- a table of lines that is being filled
 
-module _ {X : Type 0} (room : ℕ) (none : X) (f : List ℕ → X) where
-  pub fill-start : (r : X) → r ≡ none → replicate room r ≡ filled room none f []
+-- a line past the numbers' end has no fields
+pub beyond-end : (v : List ℕ) (w : ℕ) → take w (drop (length v) v) ≡ []
+beyond-end v w = let h : length v ≤ length v = omega arith in ap (take w) (drop-of-length-le v h) ∙ none w
+  where
+    none : (n : ℕ) → take {A = ℕ} n [] ≡ []
+    none zero = refl
+    none (suc n) = refl
+
+module _ {X : Type 0} (places : ℕ) (f : List ℕ → X) where
+  pub fill-start : (v : List ℕ) (w : ℕ) (r : X) → r ≡ f (take w (drop (length v) v)) → replicate places r ≡ filled places f []
   unfolding filled
-  fill-start r e = rw (e, sub-zero room)
+  fill-start v w r e = rw (e, beyond-end v w, sub-zero places)
 
   map-snoc : (xs : List (List ℕ)) (x : List ℕ) → map f (xs ++ (x ∷ [])) ≡ map f xs ++ (f x ∷ [])
   map-snoc [] x = refl
   map-snoc (y ∷ xs) x = ap (λ (l : List X). f y ∷ l) (map-snoc xs x)
 
-  pub fill-next : (out : List X) (v : List ℕ) (s w n i : ℕ) (x : X) → i < n → n ≤ room → x ≡ f (take w (drop (s + i * w) v))
-      → out ≡ filled room none f (take i (rowsIn v s w n)) → set out i x ≡ filled room none f (take (i + 1) (rowsIn v s w n))
+  pub fill-next : (out : List X) (v : List ℕ) (s w n i : ℕ) (x : X) → i < n → n ≤ places → x ≡ f (take w (drop (s + i * w) v))
+      → out ≡ filled places f (take i (rowsIn v s w n)) → set out i x ≡ filled places f (take (i + 1) (rowsIn v s w n))
   unfolding filled
   fill-next out v s w n i x h k e inv =
       let rows = rowsIn v s w n in
       let l : length rows ≡ n = rows-length v s w n in
       let t : length (take i rows) ≡ i = length-take-le i rows (omega arith) in
       let u : length (take (suc i) rows) ≡ suc i = length-take-le (suc i) rows (omega arith) in
-      let r : room - i ≡ suc (room - suc i) = omega arith in
+      let r : places - i ≡ suc (places - suc i) = omega arith in
       let q : f (getD rows i []) ≡ x = ap f (row-at v s w n i h) ∙ sym e in
-      let z : out ≡ map f (take i rows) ++ none ∷ replicate (room - suc i) none = inv ∙ rw (t, r) in
+      let z : out ≡ map f (take i rows) ++ f [] ∷ replicate (places - suc i) (f []) = inv ∙ rw (t, r) in
       ap (λ (o : List X). set o i x) z
-      ∙ set-at (map f (take i rows)) none (replicate (room - suc i) none) x i (length-map (take i rows) f ∙ t)
-      ∙ sym (rw (add-one i, u, take-suc rows i [] (omega arith), map-snoc (take i rows) (getD rows i []), q) (append-assoc (map f (take i rows)) (x ∷ []) (replicate (room - suc i) none)))
+      ∙ set-at (map f (take i rows)) (f []) (replicate (places - suc i) (f [])) x i (length-map (take i rows) f ∙ t)
+      ∙ sym (rw (add-one i, u, take-suc rows i [] (omega arith), map-snoc (take i rows) (getD rows i []), q) (append-assoc (map f (take i rows)) (x ∷ []) (replicate (places - suc i) (f []))))
 
-  pub fill-done : (out : List X) (v : List ℕ) (s w n i : ℕ) → n ≤ i → out ≡ filled room none f (take i (rowsIn v s w n)) → out ≡ filled room none f (rowsIn v s w n)
-  fill-done out v s w n i h inv = inv ∙ ap (filled room none f) (take-all i (rowsIn v s w n) (omega (arith, rows-length v s w n)))
+  pub fill-done : (out : List X) (v : List ℕ) (s w n i : ℕ) → n ≤ i → out ≡ filled places f (take i (rowsIn v s w n)) → out ≡ filled places f (rowsIn v s w n)
+  fill-done out v s w n i h inv = inv ∙ ap (filled places f) (take-all i (rowsIn v s w n) (omega (arith, rows-length v s w n)))
+
+  -- no line at all
+  pub fill-none : (v : List ℕ) (s w : ℕ) → filled places f (rowsIn v s w 0) ≡ filled places f []
+  unfolding rowsIn cut
+  fill-none v s w = refl

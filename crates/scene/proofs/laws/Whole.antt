@@ -8,8 +8,10 @@ use native.Mathlib.Nat.{add-zero, zero-add, zero-mul}
 use native.Mathlib.Omega.{arith}
 use borrow.Author.Tests.{leb-true, ltb-true, ltb-false}
 use lib.Dec.{leb, ltb}
-use lib.ListN.{length, getD, take, drop, replicate, take-append-drop, List·getD-append, List·getD-eq-default}
+use lib.ListN.{length, getD, take, drop, take-append-drop, List·getD-append, List·getD-eq-default}
 use lib.Seq.{getD-append-add, drop-cons, getD-take}
+use Rattle.limits.specs.Limits.{clockLines, trackLines, sendLines, routeLines, soundLines, orderLines}
+use Rattle.laws.proofs.laws.Choice.{and-left, and-right, and-same}
 use Rattle.scene_tables.specs.declared.tables.Field.{Field}
 use Rattle.scene_tables.specs.declared.tables.LineRule.{LineRule}
 use Rattle.scene_tables.specs.declared.tables.LineRule.the-variants.{Plain, Speed, Order}
@@ -22,17 +24,15 @@ use Rattle.scene.specs.declared.scene.SoundLine.{SoundLine}
 use Rattle.scene.specs.declared.scene.OrderLine.{OrderLine}
 use Rattle.scene.specs.declared.scene.Scene.{Scene}
 use Rattle.scene_tables.specs.Bytes.{every, all}
-use Rattle.scene_tables.specs.Tables.{Table, tables, noTable, noField, width}
+use Rattle.scene_tables.specs.Tables.{Table, tables, noTable, noField, width, tableAt, head, clocks, tracks, sends, routes, sounds, orders, headColumn, clockColumn, orderColumn}
 use Rattle.scene_tables.specs.InCode.{allFields}
-use Rattle.scene_questions.specs.Questions.{Tables, rowsAt, linesAt, cell, field, blocks, linesOk, everyLine, inRange, namesLine, lineInRange, lineNamesLine, rangesOk, referencesOk, orderFits}
-use Rattle.scene_questions.specs.Places.{rowsIn, placedFrom, countAt, countsFit, fieldPasses, linePasses, fieldsPass, tablePasses, tablesPass, Low, stored}
-use Rattle.scene.specs.Scene.{headOf, clockOf, trackOf, sendOf, routeOf, soundOf, orderOf, filled, sceneOf, emptyClockLine, emptyTrackLine, emptySendLine, emptyRouteLine, emptySoundLine, emptyOrderLine, emptyHead, emptyScene}
-use Rattle.scene_questions.proofs.laws.Loops.{and-left, and-right, and-same, all-at, every-at, every-same}
-use Rattle.scene_questions.proofs.laws.Places.{rows-length, row-at, cell-at}
+use Rattle.scene_questions.specs.Questions.{Tables, rowsAt, linesAt, cell, field, headCell, linesOk, everyLine, inRange, namesLine, lineInRange, lineNamesLine, rangesOk, referencesOk, orderFits}
+use Rattle.scene_questions.specs.Places.{rowsIn, placedFrom, countAt, countsFit, fieldPasses, linePasses, fieldsPass, tablePasses, tablesPass, placesMost, Low, stored}
+use Rattle.scene.specs.Scene.{headOf, clockOf, trackOf, sendOf, routeOf, soundOf, orderOf, filled, sceneOf}
+use Rattle.scene_tables.proofs.laws.Every.{all-at, every-at, every-same}
+use Rattle.scene_questions.proofs.laws.Places.{rows-length, row-at, cell-at, cell-beyond}
 use Rattle.scene_rules.proofs.laws.Passes.{fields-join}
-
-abbrev tableAt : ℕ → Table
-tableAt t = getD tables t noTable
+use Rattle.scene.proofs.laws.Typed.{beyond-end, fill-none}
 
 -- ---- lines of a table
 
@@ -85,8 +85,8 @@ module _ (starts counts v : List ℕ) where
 -- how many fields the rule of a line looks at
 needed : LineRule → ℕ
 needed Plain = 0
-needed Speed = 2
-needed Order = 10
+needed Speed = width (tableAt clocks)
+needed Order = width (tableAt orders)
 
 field-cut : (w : ℕ) (l : List ℕ) (j : ℕ) → j < w → field (take w l) j ≡ field l j
 field-cut w l j h = getD-take w l j 0 h
@@ -96,18 +96,18 @@ line-cut : (references : Bool) (lines : ℕ → ℕ) (blocks : ℕ) (rule : Line
 unfolding linePasses lineNamesLine lineInRange needed orderFits
 line-cut true lines blocks Plain w l h = refl
 line-cut true lines blocks Speed w l h = refl
-line-cut true lines blocks Order w l h = rw (field-cut w l 1 (omega arith), field-cut w l 2 (omega arith))
+line-cut true lines blocks Order w l h = rw (field-cut w l (orderColumn .kind) (omega arith), field-cut w l (orderColumn .index) (omega arith))
 line-cut false lines blocks Plain w l h = refl
-line-cut false lines blocks Speed w l h = rw (field-cut w l 0 (omega arith), field-cut w l 1 (omega arith))
+line-cut false lines blocks Speed w l h = rw (field-cut w l (clockColumn .unit) (omega arith), field-cut w l (clockColumn .speed) (omega arith))
 line-cut false lines blocks Order w l h =
-    rw (field-cut w l 0 (omega arith), field-cut w l 1 (omega arith), field-cut w l 3 (omega arith), field-cut w l 4 (omega arith), field-cut w l 5 (omega arith), field-cut w l 6 (omega arith), field-cut w l 7 (omega arith), field-cut w l 8 (omega arith), field-cut w l 9 (omega arith))
+    rw (field-cut w l (orderColumn .block) (omega arith), field-cut w l (orderColumn .kind) (omega arith), field-cut w l (orderColumn .volume) (omega arith), field-cut w l (orderColumn .clock) (omega arith), field-cut w l (orderColumn .when) (omega arith), field-cut w l (orderColumn .part) (omega arith), field-cut w l (orderColumn .millis) (omega arith), field-cut w l (orderColumn .easing) (omega arith), field-cut w l (orderColumn .power) (omega arith))
 
 -- every table has that many
 wide : Table → Bool
 wide t = leb (needed (t .rule)) (width t)
 
 all-wide : all wide tables ≡ true
-unfolding all wide needed width
+unfolding all wide needed
 all-wide = refl
 
 rule-wide : (t : ℕ) → t < length tables → needed (tableAt t .rule) ≤ width (tableAt t)
@@ -117,7 +117,7 @@ rule-wide t h = leb-true (needed (tableAt t .rule)) (width (tableAt t)) (all-at 
 -- a field's rule, by its place among all fields
 field-of : (ts : List Table) (t j : ℕ) → t < length ts → j < width (getD ts t noTable)
     → getD (allFields ts) (length (allFields (take t ts)) + j) noField ≡ getD (getD ts t noTable .fields) j noField
-unfolding allFields width
+unfolding allFields
 field-of ts t j h k =
     ap (λ (l : List Field). getD l (length (allFields (take t ts)) + j) noField)
     (sym (ap allFields (take-append-drop t ts)) ∙ fields-join (take t ts) (drop t ts))
@@ -171,11 +171,11 @@ unfolding fieldPasses linePasses
 by-5 lines b ts = refl
 
 module _ (starts counts v : List ℕ) where
-  pub ranges-are : (lines : ℕ → ℕ) → rangesOk (stored starts counts v) ≡ tablesPass false lines (blocks (stored starts counts v)) starts counts v
+  pub ranges-are : (lines : ℕ → ℕ) → rangesOk (stored starts counts v) ≡ tablesPass false lines (headCell (stored starts counts v) (headColumn .blocks)) starts counts v
   unfolding rangesOk
   ranges-are lines =
-      by-4 lines (blocks (stored starts counts v)) (stored starts counts v)
-      ∙ passes-are false lines (blocks (stored starts counts v)) v starts counts
+      by-4 lines (headCell (stored starts counts v) (headColumn .blocks)) (stored starts counts v)
+      ∙ passes-are false lines (headCell (stored starts counts v) (headColumn .blocks)) v starts counts
 
   pub references-are : (b : ℕ) → referencesOk (stored starts counts v) ≡ tablesPass true (countAt counts) b starts counts v
   unfolding referencesOk
@@ -186,6 +186,19 @@ module _ (starts counts v : List ℕ) where
 
 -- ---- the head line
 
+module _ (starts counts v : List ℕ) (j : ℕ) where
+  pub head-none : getD counts head 0 ≡ 0 → 0 ≡ headCell (stored starts counts v) j
+  head-none h =
+      sym (ap (λ (R : List (List ℕ)). cell R 0 j) (rows-placed starts counts v head (omega arith))
+      ∙ cell-beyond v (getD starts head 0) (width (tableAt head)) (getD counts head 0) 0 j (omega arith))
+
+  pub head-there : (getD counts head 0 ≡ 0 → ⊥) → j < width (tableAt head) → (x : ℕ) → x ≡ getD v (getD starts head 0 + j) 0 → x ≡ headCell (stored starts counts v) j
+  head-there h k x e =
+      e
+      ∙ sym (ap (λ (R : List (List ℕ)). cell R 0 j) (rows-placed starts counts v head (omega arith))
+      ∙ cell-at v (getD starts head 0) (width (tableAt head)) (getD counts head 0) 0 j (omega arith) k
+      ∙ rw (zero-mul (width (tableAt head)), add-zero (getD starts head 0)))
+
 module _ (starts counts v : List ℕ) (fit : countsFit counts ≡ true) where
   count-fits : (t : ℕ) → t < length tables → (tableAt t .least ≤ getD counts t 0) × (getD counts t 0 ≤ tableAt t .most)
   unfolding countsFit
@@ -195,36 +208,68 @@ module _ (starts counts v : List ℕ) (fit : countsFit counts ≡ true) where
         leb-true (getD counts t 0) (tableAt t .most) (and-right (leb (tableAt t .least) (getD counts t 0)) (leb (getD counts t 0) (tableAt t .most)) e),
       )
 
-  pub head-cell : (j : ℕ) → j < 6 → cell (rowsAt (stored starts counts v) 0) 0 j ≡ getD v (getD starts 0 0 + j) 0
-  unfolding width
-  head-cell j h =
-      let k : 0 < getD counts 0 0 = count-fits 0 (omega arith) .0 in
-      ap (λ (R : List (List ℕ)). cell R 0 j) (rows-placed starts counts v 0 (omega arith))
-      ∙ cell-at v (getD starts 0 0) 6 (getD counts 0 0) 0 j k h
-      ∙ rw (zero-mul 6, add-zero (getD starts 0 0))
-
   pub lies : Low starts counts → (t : ℕ) → t < length tables
-      → (getD starts t 0 + getD counts t 0 * width (tableAt t) ≤ 100000) × (getD counts t 0 ≤ tableAt t .most)
+      → (getD starts t 0 + getD counts t 0 * width (tableAt t) ≤ placesMost) × (getD counts t 0 ≤ tableAt t .most)
   lies low t h = (low t h, count-fits t h .1)
 
 -- ---- the scene
 
-module _ (starts counts v : List ℕ) (fit : countsFit counts ≡ true) where
-  pub scene-is : (h : Head) (r1 : List ClockLine) (r2 : List TrackLine) (r3 : List SendLine) (r4 : List RouteLine) (r5 : List SoundLine) (r6 : List OrderLine) → h ≡ headOf (take 6 (drop (getD starts 0 0) v))
-      → r1 ≡ filled 8 emptyClockLine clockOf (rowsIn v (getD starts 1 0) 3 (getD counts 1 0))
-      → r2 ≡ filled 32 emptyTrackLine trackOf (rowsIn v (getD starts 2 0) 2 (getD counts 2 0))
-      → r3 ≡ filled 8 emptySendLine sendOf (rowsIn v (getD starts 3 0) 1 (getD counts 3 0))
-      → r4 ≡ filled 64 emptyRouteLine routeOf (rowsIn v (getD starts 4 0) 3 (getD counts 4 0))
-      → r5 ≡ filled 64 emptySoundLine soundOf (rowsIn v (getD starts 5 0) 3 (getD counts 5 0))
-      → r6 ≡ filled 128 emptyOrderLine orderOf (rowsIn v (getD starts 6 0) 10 (getD counts 6 0))
-      → _≡_ {A = Scene} (record { head = h; «clock_count» = getD counts 1 0; clocks = r1; «track_count» = getD counts 2 0; tracks = r2; «send_count» = getD counts 3 0; sends = r3; «route_count» = getD counts 4 0; routes = r4; «sound_count» = getD counts 5 0; sounds = r5; «order_count» = getD counts 6 0; orders = r6 }) (sceneOf (stored starts counts v))
-  unfolding sceneOf stored placedFrom width
-  scene-is h r1 r2 r3 r4 r5 r6 e0 e1 e2 e3 e4 e5 e6 =
-      let k : 0 < getD counts 0 0 = count-fits starts counts v fit 0 (omega arith) .0 in
-      let z : getD starts 0 0 + 0 * 6 ≡ getD starts 0 0 = omega arith in
-      rw (row-at v (getD starts 0 0) 6 (getD counts 0 0) 0 k, z, ← e0, e1, e2, e3, e4, e5, e6, rows-length v (getD starts 1 0) 3 (getD counts 1 0), rows-length v (getD starts 2 0) 2 (getD counts 2 0), rows-length v (getD starts 3 0) 1 (getD counts 3 0), rows-length v (getD starts 4 0) 3 (getD counts 4 0), rows-length v (getD starts 5 0) 3 (getD counts 5 0), rows-length v (getD starts 6 0) 10 (getD counts 6 0))
+module _ (starts counts v : List ℕ) where
+  -- the rows of a table, where it is placed
+  abbrev placed : ℕ → List (List ℕ)
+  placed t = rowsIn v (getD starts t 0) (width (tableAt t)) (getD counts t 0)
 
-pub no-scene-is : (h : Head) (x1 : ClockLine) (x2 : TrackLine) (x3 : SendLine) (x4 : RouteLine) (x5 : SoundLine) (x6 : OrderLine) → h ≡ emptyHead → x1 ≡ emptyClockLine → x2 ≡ emptyTrackLine → x3 ≡ emptySendLine → x4 ≡ emptyRouteLine → x5 ≡ emptySoundLine → x6 ≡ emptyOrderLine
-    → _≡_ {A = Scene} (record { head = h; «clock_count» = 0; clocks = replicate 8 x1; «track_count» = 0; tracks = replicate 32 x2; «send_count» = 0; sends = replicate 8 x3; «route_count» = 0; routes = replicate 64 x4; «sound_count» = 0; sounds = replicate 64 x5; «order_count» = 0; orders = replicate 128 x6 }) emptyScene
-unfolding emptyScene
-no-scene-is h x1 x2 x3 x4 x5 x6 e0 e1 e2 e3 e4 e5 e6 = rw (e0, e1, e2, e3, e4, e5, e6)
+  scene-by : (h : Head) (r1 : List ClockLine) (r2 : List TrackLine) (r3 : List SendLine) (r4 : List RouteLine) (r5 : List SoundLine) (r6 : List OrderLine)
+      → h ≡ headOf (getD (placed head) 0 [])
+      → r1 ≡ filled clockLines clockOf (placed clocks)
+      → r2 ≡ filled trackLines trackOf (placed tracks)
+      → r3 ≡ filled sendLines sendOf (placed sends)
+      → r4 ≡ filled routeLines routeOf (placed routes)
+      → r5 ≡ filled soundLines soundOf (placed sounds)
+      → r6 ≡ filled orderLines orderOf (placed orders)
+      → _≡_ {A = Scene} (record { head = h; «clock_count» = getD counts clocks 0; clocks = r1; «track_count» = getD counts tracks 0; tracks = r2; «send_count» = getD counts sends 0; sends = r3; «route_count» = getD counts routes 0; routes = r4; «sound_count» = getD counts sounds 0; sounds = r5; «order_count» = getD counts orders 0; orders = r6 }) (sceneOf (stored starts counts v))
+  unfolding sceneOf
+  scene-by h r1 r2 r3 r4 r5 r6 e0 e1 e2 e3 e4 e5 e6 =
+      let rows : (t : ℕ) → t < length tables → rowsAt (stored starts counts v) t ≡ placed t = rows-placed starts counts v in
+      let lines : (t : ℕ) → t < length tables → getD counts t 0 ≡ linesAt (stored starts counts v) t = λ t k. sym (lines-placed starts counts v t k) in
+      same (e0 ∙ ap (λ (R : List (List ℕ)). headOf (getD R 0 [])) (sym (rows head (omega arith))))
+      (lines clocks (omega arith)) (e1 ∙ ap (filled clockLines clockOf) (sym (rows clocks (omega arith))))
+      (lines tracks (omega arith)) (e2 ∙ ap (filled trackLines trackOf) (sym (rows tracks (omega arith))))
+      (lines sends (omega arith)) (e3 ∙ ap (filled sendLines sendOf) (sym (rows sends (omega arith))))
+      (lines routes (omega arith)) (e4 ∙ ap (filled routeLines routeOf) (sym (rows routes (omega arith))))
+      (lines sounds (omega arith)) (e5 ∙ ap (filled soundLines soundOf) (sym (rows sounds (omega arith))))
+      (lines orders (omega arith)) (e6 ∙ ap (filled orderLines orderOf) (sym (rows orders (omega arith))))
+    where
+      same : {h h' : Head} {n1 n1' : ℕ} {r1 r1' : List ClockLine} {n2 n2' : ℕ} {r2 r2' : List TrackLine} {n3 n3' : ℕ} {r3 r3' : List SendLine} {n4 n4' : ℕ} {r4 r4' : List RouteLine} {n5 n5' : ℕ} {r5 r5' : List SoundLine} {n6 n6' : ℕ} {r6 r6' : List OrderLine}
+          → h ≡ h' → n1 ≡ n1' → r1 ≡ r1' → n2 ≡ n2' → r2 ≡ r2' → n3 ≡ n3' → r3 ≡ r3' → n4 ≡ n4' → r4 ≡ r4' → n5 ≡ n5' → r5 ≡ r5' → n6 ≡ n6' → r6 ≡ r6'
+          → _≡_ {A = Scene} (record { head = h; «clock_count» = n1; clocks = r1; «track_count» = n2; tracks = r2; «send_count» = n3; sends = r3; «route_count» = n4; routes = r4; «sound_count» = n5; sounds = r5; «order_count» = n6; orders = r6 }) (record { head = h'; «clock_count» = n1'; clocks = r1'; «track_count» = n2'; tracks = r2'; «send_count» = n3'; sends = r3'; «route_count» = n4'; routes = r4'; «sound_count» = n5'; sounds = r5'; «order_count» = n6'; orders = r6' })
+      same p0 q1 p1 q2 p2 q3 p3 q4 p4 q5 p5 q6 p6 = cc
+
+  module _ (fit : countsFit counts ≡ true) where
+    pub scene-is : (h : Head) (r1 : List ClockLine) (r2 : List TrackLine) (r3 : List SendLine) (r4 : List RouteLine) (r5 : List SoundLine) (r6 : List OrderLine)
+        → h ≡ headOf (take (width (tableAt head)) (drop (getD starts head 0) v))
+        → r1 ≡ filled clockLines clockOf (placed clocks)
+        → r2 ≡ filled trackLines trackOf (placed tracks)
+        → r3 ≡ filled sendLines sendOf (placed sends)
+        → r4 ≡ filled routeLines routeOf (placed routes)
+        → r5 ≡ filled soundLines soundOf (placed sounds)
+        → r6 ≡ filled orderLines orderOf (placed orders)
+        → _≡_ {A = Scene} (record { head = h; «clock_count» = getD counts clocks 0; clocks = r1; «track_count» = getD counts tracks 0; tracks = r2; «send_count» = getD counts sends 0; sends = r3; «route_count» = getD counts routes 0; routes = r4; «sound_count» = getD counts sounds 0; sounds = r5; «order_count» = getD counts orders 0; orders = r6 }) (sceneOf (stored starts counts v))
+    scene-is h r1 r2 r3 r4 r5 r6 e0 =
+        let k : 0 < getD counts head 0 = count-fits starts counts v fit head (omega arith) .0 in
+        let z : getD starts head 0 + 0 * width (tableAt head) ≡ getD starts head 0 = omega arith in
+        scene-by h r1 r2 r3 r4 r5 r6 (rw (row-at v (getD starts head 0) (width (tableAt head)) (getD counts head 0) 0 k, z) e0)
+
+-- no line at all
+pub no-scene-is : (h : Head) (r1 : List ClockLine) (r2 : List TrackLine) (r3 : List SendLine) (r4 : List RouteLine) (r5 : List SoundLine) (r6 : List OrderLine) (v : List ℕ) (s : ℕ)
+    → h ≡ headOf (take (width (tableAt head)) (drop (length v) v))
+    → r1 ≡ filled clockLines clockOf (rowsIn v s (width (tableAt clocks)) 0)
+    → r2 ≡ filled trackLines trackOf (rowsIn v s (width (tableAt tracks)) 0)
+    → r3 ≡ filled sendLines sendOf (rowsIn v s (width (tableAt sends)) 0)
+    → r4 ≡ filled routeLines routeOf (rowsIn v s (width (tableAt routes)) 0)
+    → r5 ≡ filled soundLines soundOf (rowsIn v s (width (tableAt sounds)) 0)
+    → r6 ≡ filled orderLines orderOf (rowsIn v s (width (tableAt orders)) 0)
+    → _≡_ {A = Scene} (record { head = h; «clock_count» = 0; clocks = r1; «track_count» = 0; tracks = r2; «send_count» = 0; sends = r3; «route_count» = 0; routes = r4; «sound_count» = 0; sounds = r5; «order_count» = 0; orders = r6 }) (sceneOf [])
+unfolding sceneOf
+no-scene-is h r1 r2 r3 r4 r5 r6 v s e0 e1 e2 e3 e4 e5 e6 =
+    rw (e0, beyond-end v (width (tableAt head)), e1, fill-none clockLines clockOf v s (width (tableAt clocks)), e2, fill-none trackLines trackOf v s (width (tableAt tracks)), e3, fill-none sendLines sendOf v s (width (tableAt sends)), e4, fill-none routeLines routeOf v s (width (tableAt routes)), e5, fill-none soundLines soundOf v s (width (tableAt sounds)), e6, fill-none orderLines orderOf v s (width (tableAt orders)))

@@ -9,12 +9,13 @@ use borrow.Author.Tests.{eq-eqb, ne-eqb, le-leb, lt-leb, le-ltb, lt-ltb, leb-tru
 use lib.Dec.{eqb, leb, ltb}
 use lib.ListN.{length, getD, take, drop, drop-of-length-le}
 use lib.Seq.{take-all}
+use Rattle.laws.proofs.laws.Choice.{and-false, and-true}
 use Rattle.scene_file.specs.declared.numbers.Magnitude.{Magnitude}
 use Rattle.scene_file.specs.declared.numbers.Number.{Number}
 use Rattle.scene_tables.specs.Bytes.{all, sameBytes}
 use Rattle.scene_file.specs.Grammar.{isDigit, digitsAfter, leadingZero, isWhole, isNumber, valueOf}
 use Rattle.scene_file.specs.Readings.{positionOf, magnitudeOf, positiveOf, negativeOf, numberOf}
-use Rattle.scene_file.proofs.laws.Small.{and-false, and-true, rest, prefix-count}
+use Rattle.scene_file.proofs.laws.Tails.{rest, prefix-count}
 use Rattle.scene_file.specs.declared.numbers.Magnitude.the-variants as M
 use Rattle.scene_file.specs.declared.numbers.Number.the-variants as N
 

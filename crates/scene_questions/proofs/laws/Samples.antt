@@ -2,7 +2,7 @@
 use mathlib.Core.Path.{_≡_, refl, sym, _∙_, ap}
 use mathlib.Core.Bool.{Bool, true, false, not}
 use mathlib.Core.List.{List}
-use Prim.Native.Nat.{ℕ, zero, suc, _+_, _-_, _<_, _≤_}
+use Prim.Native.Nat.{ℕ, _+_, _-_, _<_, _≤_}
 use native.Mathlib.Decide.{decLt}
 use native.Mathlib.Omega.{arith}
 use borrow.Author.Tests.{not-false}
@@ -12,13 +12,8 @@ use Rattle.laws.specs.Count.{counted}
 use Rattle.laws.proofs.laws.Count.{counted-le, some-picked, inRun, count-clear}
 use Rattle.scene_tables.specs.Bytes.{every}
 use Rattle.scene_questions.specs.Questions.{sampleOk, samplesOk}
-use Rattle.scene_questions.proofs.laws.Loops.{every-at}
+use Rattle.scene_tables.proofs.laws.Every.{every-at, every-all}
 use Rattle.scene_questions.proofs.laws.Tracks.{sampleTest}
-
-pub every-all : (n : ℕ) (f : ℕ → Bool) → ((i : ℕ) → i < n → f i ≡ true) → every n f ≡ true
-unfolding every
-every-all zero f h = refl
-every-all (suc n) f h = rw (every-all n f (λ i k. h i (omega arith)), h n (omega arith))
 
 -- ---- the samples of one run
 

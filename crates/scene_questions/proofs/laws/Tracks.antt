@@ -9,96 +9,97 @@ use borrow.Author.Tests.{eq-eqb, ne-eqb, le-leb, lt-leb, not-true, not-false}
 use lib.Dec.{eqb, leb}
 use lib.ListN.{length, getD}
 use lib.Ieee.{Float, nan}
+use Rattle.limits.specs.Limits.{trackDepth}
 use Rattle.scene_tables.specs.Bytes.{every}
-use Rattle.scene_tables.specs.Tables.{natural}
+use Rattle.scene_tables.specs.Tables.{natural, tableAt, width, tracks, routes, sounds, trackColumn, routeColumn, soundColumn}
 use Rattle.scene_questions.specs.Questions.{parentOf, withinDepth, depthsFit, samePair, newPair, routesFit, soundFits, soundsFit, sampleOk, samplesOk}
 use Rattle.scene_questions.specs.Places.{rowsIn}
-use Rattle.scene_questions.proofs.laws.Loops.{every-none, every-passed, every-failed, every-done}
+use Rattle.scene_tables.proofs.laws.Every.{every-none, every-passed, every-failed, every-done}
 use Rattle.scene_questions.proofs.laws.Places.{rows-length, cell-at, cell-beyond}
 
 -- ---- 6. depths
 
 module _ (v : List ℕ) (s n line : ℕ) where
-  pub parent-mixer : line ≡ 0 → 0 ≡ parentOf (rowsIn v s 2 n) line
+  pub parent-mixer : line ≡ 0 → 0 ≡ parentOf (rowsIn v s (width (tableAt tracks)) n) line
   unfolding parentOf
   parent-mixer h = rw h
 
-  pub parent-beyond : n < line → 0 ≡ parentOf (rowsIn v s 2 n) line
+  pub parent-beyond : n < line → 0 ≡ parentOf (rowsIn v s (width (tableAt tracks)) n) line
   unfolding parentOf
   parent-beyond h = go line h
     where
-      go : (l : ℕ) → n < l → 0 ≡ parentOf (rowsIn v s 2 n) l
+      go : (l : ℕ) → n < l → 0 ≡ parentOf (rowsIn v s (width (tableAt tracks)) n) l
       go zero k = absurd (omega arith)
-      go (suc l) k = rw (cell-beyond v s 2 n l 0 (omega arith))
+      go (suc l) k = rw (cell-beyond v s (width (tableAt tracks)) n l (trackColumn .parent) (omega arith))
 
-  pub parent-there : (z r : ℕ) → (line ≡ 0 → ⊥) → line ≤ n → z ≡ getD v (s + (line - 1) * 2 + 0) 0 → r ≡ natural z → r ≡ parentOf (rowsIn v s 2 n) line
+  pub parent-there : (z r : ℕ) → (line ≡ 0 → ⊥) → line ≤ n → z ≡ getD v (s + (line - 1) * width (tableAt tracks) + trackColumn .parent) 0 → r ≡ natural z → r ≡ parentOf (rowsIn v s (width (tableAt tracks)) n) line
   unfolding parentOf
   parent-there z r h k e q = go line h k e
     where
-      go : (l : ℕ) → (l ≡ 0 → ⊥) → l ≤ n → z ≡ getD v (s + (l - 1) * 2 + 0) 0 → r ≡ parentOf (rowsIn v s 2 n) l
+      go : (l : ℕ) → (l ≡ 0 → ⊥) → l ≤ n → z ≡ getD v (s + (l - 1) * width (tableAt tracks) + trackColumn .parent) 0 → r ≡ parentOf (rowsIn v s (width (tableAt tracks)) n) l
       go zero h k e = absurd (h refl)
       go (suc l) h k e =
           let p : suc l - 1 ≡ l = omega arith in
-          q ∙ ap natural (e ∙ rw p (sym (cell-at v s 2 n l 0 k (omega arith))))
+          q ∙ ap natural (e ∙ rw p (sym (cell-at v s (width (tableAt tracks)) n l (trackColumn .parent) k (omega arith))))
 
-module _ (rows : List (List ℕ)) (track line d : ℕ) (inv : withinDepth d rows line ≡ withinDepth 4 rows track) where
-  pub depth-mixer : 0 < d → line ≡ 0 → true ≡ withinDepth 4 rows track
+module _ (rows : List (List ℕ)) (track line d : ℕ) (inv : withinDepth d rows line ≡ withinDepth trackDepth rows track) where
+  pub depth-mixer : 0 < d → line ≡ 0 → true ≡ withinDepth trackDepth rows track
   unfolding withinDepth
   depth-mixer h e = go d h inv
     where
-      go : (k : ℕ) → 0 < k → withinDepth k rows line ≡ withinDepth 4 rows track → true ≡ withinDepth 4 rows track
+      go : (k : ℕ) → 0 < k → withinDepth k rows line ≡ withinDepth trackDepth rows track → true ≡ withinDepth trackDepth rows track
       go zero h q = absurd (omega arith)
       go (suc k) h q = rw (eq-eqb line 0 e) at q
 
-  pub depth-next : (p : ℕ) → 0 < d → (line ≡ 0 → ⊥) → p ≡ parentOf rows line → withinDepth (d - 1) rows p ≡ withinDepth 4 rows track
+  pub depth-next : (p : ℕ) → 0 < d → (line ≡ 0 → ⊥) → p ≡ parentOf rows line → withinDepth (d - 1) rows p ≡ withinDepth trackDepth rows track
   unfolding withinDepth
   depth-next p h e f = go d h inv
     where
-      go : (k : ℕ) → 0 < k → withinDepth k rows line ≡ withinDepth 4 rows track → withinDepth (k - 1) rows p ≡ withinDepth 4 rows track
+      go : (k : ℕ) → 0 < k → withinDepth k rows line ≡ withinDepth trackDepth rows track → withinDepth (k - 1) rows p ≡ withinDepth trackDepth rows track
       go zero h q = absurd (omega arith)
       go (suc k) h q =
           let u : suc k - 1 ≡ k = omega arith in
           rw (u, f) (rw (ne-eqb line 0 e) at q)
 
-  pub depth-done : d ≤ 0 → eqb line 0 ≡ withinDepth 4 rows track
+  pub depth-done : d ≤ 0 → eqb line 0 ≡ withinDepth trackDepth rows track
   unfolding withinDepth
   depth-done h = go d h inv
     where
-      go : (k : ℕ) → k ≤ 0 → withinDepth k rows line ≡ withinDepth 4 rows track → eqb line 0 ≡ withinDepth 4 rows track
+      go : (k : ℕ) → k ≤ 0 → withinDepth k rows line ≡ withinDepth trackDepth rows track → eqb line 0 ≡ withinDepth trackDepth rows track
       go zero h q = q
       go (suc k) h q = absurd (omega arith)
 
 module _ (v : List ℕ) (s n : ℕ) where
   unfoldable pub depthTest : ℕ → Bool
-  depthTest i = withinDepth 4 (rowsIn v s 2 n) (suc i)
+  depthTest i = withinDepth trackDepth (rowsIn v s (width (tableAt tracks)) n) (suc i)
 
   pub depths-none : every 0 depthTest ≡ true
   depths-none = every-none depthTest
 
-  pub depths-failed : (i : ℕ) (b : Bool) → i < n → b ≡ withinDepth 4 (rowsIn v s 2 n) (i + 1) → not b ≡ true → false ≡ depthsFit (rowsIn v s 2 n)
+  pub depths-failed : (i : ℕ) (b : Bool) → i < n → b ≡ withinDepth trackDepth (rowsIn v s (width (tableAt tracks)) n) (i + 1) → not b ≡ true → false ≡ depthsFit (rowsIn v s (width (tableAt tracks)) n)
   unfolding depthsFit depthTest
-  depths-failed i b h e k = rw (rows-length v s 2 n) (every-failed n depthTest i h (sym (ap (withinDepth 4 (rowsIn v s 2 n)) (add-one i)) ∙ sym e ∙ not-true b k))
+  depths-failed i b h e k = rw (rows-length v s (width (tableAt tracks)) n) (every-failed n depthTest i h (sym (ap (withinDepth trackDepth (rowsIn v s (width (tableAt tracks)) n)) (add-one i)) ∙ sym e ∙ not-true b k))
 
-  pub depths-passed : (i : ℕ) (b : Bool) → b ≡ withinDepth 4 (rowsIn v s 2 n) (i + 1) → not b ≡ false → every i depthTest ≡ true → every (i + 1) depthTest ≡ true
+  pub depths-passed : (i : ℕ) (b : Bool) → b ≡ withinDepth trackDepth (rowsIn v s (width (tableAt tracks)) n) (i + 1) → not b ≡ false → every i depthTest ≡ true → every (i + 1) depthTest ≡ true
   unfolding depthTest
-  depths-passed i b e k q = every-passed i depthTest q (sym (ap (withinDepth 4 (rowsIn v s 2 n)) (add-one i)) ∙ sym e ∙ not-false b k)
+  depths-passed i b e k q = every-passed i depthTest q (sym (ap (withinDepth trackDepth (rowsIn v s (width (tableAt tracks)) n)) (add-one i)) ∙ sym e ∙ not-false b k)
 
-  pub depths-done : (i : ℕ) → n ≤ i → i ≤ n → every i depthTest ≡ true → true ≡ depthsFit (rowsIn v s 2 n)
+  pub depths-done : (i : ℕ) → n ≤ i → i ≤ n → every i depthTest ≡ true → true ≡ depthsFit (rowsIn v s (width (tableAt tracks)) n)
   unfolding depthsFit depthTest
-  depths-done i h k q = rw (rows-length v s 2 n) (every-done n depthTest i h k q)
+  depths-done i h k q = rw (rows-length v s (width (tableAt tracks)) n) (every-done n depthTest i h k q)
 
 -- ---- 7. routes
 
 module _ (v : List ℕ) (s n : ℕ) where
-  module _ (i k x0 y0 : ℕ) (hi : i < n) (hk : k < n) (isx : x0 ≡ getD v (s + i * 3 + 0) 0) (isy : y0 ≡ getD v (s + k * 3 + 0) 0) where
-    pub pair-differs : (x0 ≡ y0 → ⊥) → false ≡ samePair (rowsIn v s 3 n) i k
+  module _ (i k x0 y0 : ℕ) (hi : i < n) (hk : k < n) (isx : x0 ≡ getD v (s + i * width (tableAt routes) + routeColumn .track) 0) (isy : y0 ≡ getD v (s + k * width (tableAt routes) + routeColumn .track) 0) where
+    pub pair-differs : (x0 ≡ y0 → ⊥) → false ≡ samePair (rowsIn v s (width (tableAt routes)) n) i k
     unfolding samePair
-    pair-differs h = rw (cell-at v s 3 n i 0 hi (omega arith), cell-at v s 3 n k 0 hk (omega arith), ← isx, ← isy, ne-eqb x0 y0 h)
+    pair-differs h = rw (cell-at v s (width (tableAt routes)) n i (routeColumn .track) hi (omega arith), cell-at v s (width (tableAt routes)) n k (routeColumn .track) hk (omega arith), ← isx, ← isy, ne-eqb x0 y0 h)
 
-    pub pair-same : (x1 y1 : ℕ) → x1 ≡ getD v (s + i * 3 + 1) 0 → y1 ≡ getD v (s + k * 3 + 1) 0 → x0 ≡ y0 → eqb x1 y1 ≡ samePair (rowsIn v s 3 n) i k
+    pub pair-same : (x1 y1 : ℕ) → x1 ≡ getD v (s + i * width (tableAt routes) + routeColumn .send) 0 → y1 ≡ getD v (s + k * width (tableAt routes) + routeColumn .send) 0 → x0 ≡ y0 → eqb x1 y1 ≡ samePair (rowsIn v s (width (tableAt routes)) n) i k
     unfolding samePair
     pair-same x1 y1 e f h =
-        rw (cell-at v s 3 n i 0 hi (omega arith), cell-at v s 3 n k 0 hk (omega arith), ← isx, ← isy, eq-eqb x0 y0 h, cell-at v s 3 n i 1 hi (omega arith), cell-at v s 3 n k 1 hk (omega arith), ← e, ← f)
+        rw (cell-at v s (width (tableAt routes)) n i (routeColumn .track) hi (omega arith), cell-at v s (width (tableAt routes)) n k (routeColumn .track) hk (omega arith), ← isx, ← isy, eq-eqb x0 y0 h, cell-at v s (width (tableAt routes)) n i (routeColumn .send) hi (omega arith), cell-at v s (width (tableAt routes)) n k (routeColumn .send) hk (omega arith), ← e, ← f)
 
 module _ (rows : List (List ℕ)) (i : ℕ) where
   unfoldable pub pairTest : ℕ → Bool
@@ -120,54 +121,54 @@ module _ (rows : List (List ℕ)) (i : ℕ) where
   pairs-done k h q p = every-done i pairTest k h q p
 
 module _ (v : List ℕ) (s n : ℕ) where
-  pub routes-none : every 0 (newPair (rowsIn v s 3 n)) ≡ true
-  routes-none = every-none (newPair (rowsIn v s 3 n))
+  pub routes-none : every 0 (newPair (rowsIn v s (width (tableAt routes)) n)) ≡ true
+  routes-none = every-none (newPair (rowsIn v s (width (tableAt routes)) n))
 
-  pub routes-failed : (i : ℕ) (b : Bool) → i < n → b ≡ newPair (rowsIn v s 3 n) i → not b ≡ true → false ≡ routesFit (rowsIn v s 3 n)
+  pub routes-failed : (i : ℕ) (b : Bool) → i < n → b ≡ newPair (rowsIn v s (width (tableAt routes)) n) i → not b ≡ true → false ≡ routesFit (rowsIn v s (width (tableAt routes)) n)
   unfolding routesFit
-  routes-failed i b h e q = rw (rows-length v s 3 n) (every-failed n (newPair (rowsIn v s 3 n)) i h (sym e ∙ not-true b q))
+  routes-failed i b h e q = rw (rows-length v s (width (tableAt routes)) n) (every-failed n (newPair (rowsIn v s (width (tableAt routes)) n)) i h (sym e ∙ not-true b q))
 
-  pub routes-passed : (i : ℕ) (b : Bool) → b ≡ newPair (rowsIn v s 3 n) i → not b ≡ false → every i (newPair (rowsIn v s 3 n)) ≡ true → every (i + 1) (newPair (rowsIn v s 3 n)) ≡ true
-  routes-passed i b e q p = every-passed i (newPair (rowsIn v s 3 n)) p (sym e ∙ not-false b q)
+  pub routes-passed : (i : ℕ) (b : Bool) → b ≡ newPair (rowsIn v s (width (tableAt routes)) n) i → not b ≡ false → every i (newPair (rowsIn v s (width (tableAt routes)) n)) ≡ true → every (i + 1) (newPair (rowsIn v s (width (tableAt routes)) n)) ≡ true
+  routes-passed i b e q p = every-passed i (newPair (rowsIn v s (width (tableAt routes)) n)) p (sym e ∙ not-false b q)
 
-  pub routes-done : (i : ℕ) → n ≤ i → i ≤ n → every i (newPair (rowsIn v s 3 n)) ≡ true → true ≡ routesFit (rowsIn v s 3 n)
+  pub routes-done : (i : ℕ) → n ≤ i → i ≤ n → every i (newPair (rowsIn v s (width (tableAt routes)) n)) ≡ true → true ≡ routesFit (rowsIn v s (width (tableAt routes)) n)
   unfolding routesFit
-  routes-done i h k q = rw (rows-length v s 3 n) (every-done n (newPair (rowsIn v s 3 n)) i h k q)
+  routes-done i h k q = rw (rows-length v s (width (tableAt routes)) n) (every-done n (newPair (rowsIn v s (width (tableAt routes)) n)) i h k q)
 
 -- ---- 8. sounds
 
 module _ (v : List ℕ) (s n : ℕ) (samples : List Float) where
-  pub sounds-odd : (length samples % 2 ≡ 0 → ⊥) → false ≡ soundsFit (rowsIn v s 3 n) samples
+  pub sounds-odd : (length samples % 2 ≡ 0 → ⊥) → false ≡ soundsFit (rowsIn v s (width (tableAt sounds)) n) samples
   unfolding soundsFit
   sounds-odd h = rw (ne-eqb (length samples % 2) 0 h)
 
-  pub sounds-none : every 0 (soundFits (rowsIn v s 3 n) (length samples / 2)) ≡ true
-  sounds-none = every-none (soundFits (rowsIn v s 3 n) (length samples / 2))
+  pub sounds-none : every 0 (soundFits (rowsIn v s (width (tableAt sounds)) n) (length samples / 2)) ≡ true
+  sounds-none = every-none (soundFits (rowsIn v s (width (tableAt sounds)) n) (length samples / 2))
 
-  module _ (i z1 z2 first count : ℕ) (hi : i < n) (is1 : z1 ≡ getD v (s + i * 3 + 1) 0) (is2 : z2 ≡ getD v (s + i * 3 + 2) 0) (isf : first ≡ natural z1) (isc : count ≡ natural z2) where
-    sound-is : soundFits (rowsIn v s 3 n) (length samples / 2) i ≡ leb (first + count) (length samples / 2)
+  module _ (i z1 z2 first count : ℕ) (hi : i < n) (is1 : z1 ≡ getD v (s + i * width (tableAt sounds) + soundColumn .first) 0) (is2 : z2 ≡ getD v (s + i * width (tableAt sounds) + soundColumn .count) 0) (isf : first ≡ natural z1) (isc : count ≡ natural z2) where
+    sound-is : soundFits (rowsIn v s (width (tableAt sounds)) n) (length samples / 2) i ≡ leb (first + count) (length samples / 2)
     unfolding soundFits
-    sound-is = rw (cell-at v s 3 n i 1 hi (omega arith), cell-at v s 3 n i 2 hi (omega arith), ← is1, ← is2, ← isf, ← isc)
+    sound-is = rw (cell-at v s (width (tableAt sounds)) n i (soundColumn .first) hi (omega arith), cell-at v s (width (tableAt sounds)) n i (soundColumn .count) hi (omega arith), ← is1, ← is2, ← isf, ← isc)
 
-    pub sounds-failed : length samples % 2 ≡ 0 → length samples / 2 < first + count → false ≡ soundsFit (rowsIn v s 3 n) samples
+    pub sounds-failed : length samples % 2 ≡ 0 → length samples / 2 < first + count → false ≡ soundsFit (rowsIn v s (width (tableAt sounds)) n) samples
     unfolding soundsFit
     sounds-failed e h =
-        rw (eq-eqb (length samples % 2) 0 e, rows-length v s 3 n)
-        (every-failed n (soundFits (rowsIn v s 3 n) (length samples / 2)) i hi (sound-is ∙ lt-leb (first + count) (length samples / 2) h))
+        rw (eq-eqb (length samples % 2) 0 e, rows-length v s (width (tableAt sounds)) n)
+        (every-failed n (soundFits (rowsIn v s (width (tableAt sounds)) n) (length samples / 2)) i hi (sound-is ∙ lt-leb (first + count) (length samples / 2) h))
 
-  pub sounds-done : (i : ℕ) → length samples % 2 ≡ 0 → n ≤ i → i ≤ n → every i (soundFits (rowsIn v s 3 n) (length samples / 2)) ≡ true
-      → true ≡ soundsFit (rowsIn v s 3 n) samples
+  pub sounds-done : (i : ℕ) → length samples % 2 ≡ 0 → n ≤ i → i ≤ n → every i (soundFits (rowsIn v s (width (tableAt sounds)) n) (length samples / 2)) ≡ true
+      → true ≡ soundsFit (rowsIn v s (width (tableAt sounds)) n) samples
   unfolding soundsFit
   sounds-done i e h k q =
-      rw (eq-eqb (length samples % 2) 0 e, rows-length v s 3 n) (every-done n (soundFits (rowsIn v s 3 n) (length samples / 2)) i h k q)
+      rw (eq-eqb (length samples % 2) 0 e, rows-length v s (width (tableAt sounds)) n) (every-done n (soundFits (rowsIn v s (width (tableAt sounds)) n) (length samples / 2)) i h k q)
 
-pub sounds-passed : (v : List ℕ) (s n frames i z1 z2 first count : ℕ) → i < n → z1 ≡ getD v (s + i * 3 + 1) 0 → z2 ≡ getD v (s + i * 3 + 2) 0
-    → first ≡ natural z1 → count ≡ natural z2 → first + count ≤ frames → every i (soundFits (rowsIn v s 3 n) frames) ≡ true
-    → every (i + 1) (soundFits (rowsIn v s 3 n) frames) ≡ true
+pub sounds-passed : (v : List ℕ) (s n frames i z1 z2 first count : ℕ) → i < n → z1 ≡ getD v (s + i * width (tableAt sounds) + soundColumn .first) 0 → z2 ≡ getD v (s + i * width (tableAt sounds) + soundColumn .count) 0
+    → first ≡ natural z1 → count ≡ natural z2 → first + count ≤ frames → every i (soundFits (rowsIn v s (width (tableAt sounds)) n) frames) ≡ true
+    → every (i + 1) (soundFits (rowsIn v s (width (tableAt sounds)) n) frames) ≡ true
 unfolding soundFits
 sounds-passed v s n frames i z1 z2 first count hi is1 is2 isf isc h q =
-    every-passed i (soundFits (rowsIn v s 3 n) frames) q
-    (rw (cell-at v s 3 n i 1 hi (omega arith), cell-at v s 3 n i 2 hi (omega arith), ← is1, ← is2, ← isf, ← isc) (le-leb (first + count) frames h))
+    every-passed i (soundFits (rowsIn v s (width (tableAt sounds)) n) frames) q
+    (rw (cell-at v s (width (tableAt sounds)) n i (soundColumn .first) hi (omega arith), cell-at v s (width (tableAt sounds)) n i (soundColumn .count) hi (omega arith), ← is1, ← is2, ← isf, ← isc) (le-leb (first + count) frames h))
 
 -- ---- 9. samples
 

@@ -1,191 +1,166 @@
--- Laws of the answer: question after question, as the code asks them.
+-- Laws of the answer, as the code asks for it: each question of the tables is asked of their places (`asked-places`), the loop over them is any
+-- list's (`FirstNo` of `scene_questions`), and questions 1 and 2 come before. Then the parts of an answer. Assumes nothing.
 use mathlib.Core.Path.{_≡_, refl, sym, _∙_, ap}
-use mathlib.Core.Bool.{Bool, true, false, cond, not}
-use mathlib.Core.List.{List}
-use Prim.Native.Nat.{ℕ, suc, _+_, _*_, _≤_}
+use mathlib.Core.Bool.{Bool, true, false, cond, not, _&&_}
+use mathlib.Core.List.{List, [], _∷_}
+use Prim.Native.Nat.{ℕ, _+_, _-_, _*_, _<_, _≤_}
 use native.Mathlib.Omega.{arith}
 use borrow.Author.Tests.{eq-eqb, ne-eqb, eqb-true, not-true, not-false}
 use lib.Dec.{eqb}
-use lib.ListN.{length, getD}
+use lib.ListN.{length, getD, drop}
 use lib.Ieee.{Float}
+use Rattle.limits.specs.Limits.{fileBytes}
 use Rattle.scene_file.specs.declared.grammar.Layout.{Layout}
-use Rattle.scene_tables.specs.Tables.{width}
+use Rattle.scene_tables.specs.Tables.{tables, tableAt, width, tracks, routes, sounds, headColumn}
 use Rattle.scene_file.specs.Grammar.{tablesOf}
 use Rattle.scene_file.specs.Readings.{LayoutRead}
 use Rattle.scene.specs.declared.scene.Scene.{Scene}
 use Rattle.scene_reader.specs.declared.answer.Answer.{Answer}
-use Rattle.scene_questions.specs.Questions.{Tables, sizeOk, spelledOk, linesOk, rangesOk, depthsFit, depthsOk, routesFit, routesOk, soundsFit, soundsOk, samplesOk, outputLength, lengthOk, asked, answerOfTables, answer}
-use Rattle.scene_questions.specs.Places.{rowsIn, countAt, countsFit, tablesPass, Low, stored}
+use Rattle.scene_questions.specs.Questions.{Tables, Question, headCell, sizeOk, spelledOk, depthsFit, routesFit, soundsFit, samplesOk, firstNo, tableQuestions, inputQuestions}
+use Rattle.scene_questions.specs.Places.{rowsIn, countAt, countsFit, tablesPass, stored, placesMost, Low, questionAt}
 use Rattle.scene.specs.Scene.{sceneOf}
-use Rattle.scene_reader.specs.Answer.{refusal, answered}
+use Rattle.scene_reader.specs.Answer.{also, refusal, answered, firstOfTables, lastOfTables}
 use Rattle.scene_questions.proofs.laws.Lengths.{size-small}
-use Rattle.scene.proofs.laws.Whole.{rows-placed, counts-are, ranges-are, references-are, head-cell}
-use Rattle.scene_reader.proofs.laws.Read.{read-placed}
+use Rattle.scene_questions.proofs.laws.FirstNo.{inOrder, number-at, asked-yes, asked-no, asked-all, yes-at}
+use Rattle.scene.proofs.laws.Whole.{rows-placed, counts-are, ranges-are, references-are}
+use Rattle.scene_reader.proofs.laws.Read.{layout-test, read-placed}
 
--- ---- tables that lie low
+-- ---- the questions of the tables
 
-module _ (starts counts : List ℕ) (low : Low starts counts) where
-  pub low-tracks : getD starts 2 0 + getD counts 2 0 * 2 ≤ 100000
-  unfolding width
-  low-tracks = low 2 (omega arith)
+-- a table that lies low
+pub low-at : (t : ℕ) → t < length tables → (starts counts : List ℕ) → Low starts counts → getD starts t 0 + getD counts t 0 * width (tableAt t) ≤ placesMost
+low-at t h starts counts low = low t h
 
-  pub low-routes : getD starts 4 0 + getD counts 4 0 * 3 ≤ 100000
-  unfolding width
-  low-routes = low 4 (omega arith)
+pub by-blocks : (starts counts v : List ℕ) (b z : ℕ) (r : Bool) → b ≡ z → r ≡ tablesPass false (countAt counts) b starts counts v
+    → r ≡ tablesPass false (countAt counts) z starts counts v
+by-blocks starts counts v b z r e h = rw (← e) h
 
-  pub low-sounds : getD starts 5 0 + getD counts 5 0 * 3 ≤ 100000
-  unfolding width
-  low-sounds = low 5 (omega arith)
+module _ (starts counts v : List ℕ) (samples : List Float) (whole : Bool) where
+  abbrev pub asked : List Question
+  asked = also 8 whole (tableQuestions (stored starts counts v) samples)
 
--- ---- 3 to 9
+  -- the rows of a table in its place
+  abbrev pub placed : ℕ → List (List ℕ)
+  placed t = rowsIn v (getD starts t 0) (width (tableAt t)) (getD counts t 0)
 
-asked-same : (n : ℕ) {b c : Bool} {x y : ℕ} → b ≡ c → x ≡ y → asked b n x ≡ asked c n y
-asked-same n e f = rw (e, f)
+  -- the same questions, as the code asks them
+  unfoldable pub byPlaces : List Question
+  byPlaces =
+      (3, countsFit counts)
+      ∷ (4, tablesPass false (countAt counts) (headCell (stored starts counts v) (headColumn .blocks)) starts counts v)
+      ∷ (5, tablesPass true (countAt counts) 0 starts counts v)
+      ∷ (6, depthsFit (placed tracks))
+      ∷ (7, routesFit (placed routes))
+      ∷ (8, whole && soundsFit (placed sounds) samples)
+      ∷ (9, samplesOk samples)
+      ∷ []
 
-asked-true : (n x : ℕ) → asked true n x ≡ x
-unfolding asked
-asked-true n x = refl
+  asked-places : asked ≡ byPlaces
+  unfolding also tableQuestions byPlaces
+  asked-places =
+      rw (counts-are starts counts v, ranges-are starts counts v (countAt counts), references-are starts counts v 0, rows-placed starts counts v tracks (omega arith), rows-placed starts counts v routes (omega arith), rows-placed starts counts v sounds (omega arith))
 
--- an output of its length passes question 10
-pub length-asked : (ts : Tables) → asked (lengthOk ts (outputLength ts)) 10 0 ≡ 0
-unfolding lengthOk asked
-length-asked ts = rw (eq-eqb (outputLength ts) (outputLength ts) refl)
+  -- a question, by its number
+  pub passes-at : (k question : ℕ) (r : Bool) → question ≡ firstOfTables + k → r ≡ questionAt byPlaces k .1 → r ≡ questionAt asked (question - firstOfTables) .1
+  passes-at k question r h e =
+      let p : question - firstOfTables ≡ k = omega arith in
+      e ∙ rw p (ap (λ (l : List Question). questionAt l k .1) (sym asked-places))
 
--- the answer with question 10 left out, of the places
-abbrev pub unmeasured : List ℕ → List ℕ → List ℕ → List Float → ℕ
-unmeasured starts counts v samples = answerOfTables (stored starts counts v) samples (outputLength (stored starts counts v))
+  in-order : inOrder firstOfTables asked ≡ true
+  unfolding inOrder also tableQuestions
+  in-order = refl
 
-module _ (starts counts v : List ℕ) (samples : List Float) where
-  pub number-3 : (b : Bool) → b ≡ countsFit counts → not b ≡ true → 3 ≡ unmeasured starts counts v samples
-  unfolding answerOfTables asked
-  number-3 b e h = rw (counts-are starts counts v, ← e, not-true b h)
+  count : length asked ≡ lastOfTables + 1 - firstOfTables
+  unfolding also tableQuestions
+  count = refl
 
-  module _ (a : Bool) (isa : a ≡ countsFit counts) (yes-a : not a ≡ false) (blk : ℕ) (isblk : blk ≡ getD v (getD starts 0 0 + 4) 0) where
-    fit : countsFit counts ≡ true
-    fit = sym isa ∙ not-false a yes-a
+  -- ---- the loop over them
 
-    ranges-same : rangesOk (stored starts counts v) ≡ tablesPass false (countAt counts) blk starts counts v
-    ranges-same =
-        ranges-are starts counts v (countAt counts)
-        ∙ ap (λ (z : ℕ). tablesPass false (countAt counts) z starts counts v) (head-cell starts counts v fit 4 (omega arith) ∙ sym isblk)
+  pub loop-starts : firstNo (drop (firstOfTables - firstOfTables) asked) ≡ firstNo asked
+  loop-starts = refl
 
-    depths-same : depthsOk (stored starts counts v) ≡ depthsFit (rowsIn v (getD starts 2 0) 2 (getD counts 2 0))
-    unfolding depthsOk width
-    depths-same = ap depthsFit (rows-placed starts counts v 2 (omega arith))
+  module _
+      (question : ℕ)
+      (from : firstOfTables ≤ question)
+      (to : question ≤ lastOfTables)
+      (b : Bool)
+      (isb : b ≡ questionAt asked (question - firstOfTables) .1)
+      (inv : firstNo (drop (question - firstOfTables) asked) ≡ firstNo asked)
+    where
+      there : question - firstOfTables < length asked
+      there = omega (arith, count)
 
-    routes-same : routesOk (stored starts counts v) ≡ routesFit (rowsIn v (getD starts 4 0) 3 (getD counts 4 0))
-    unfolding routesOk width
-    routes-same = ap routesFit (rows-placed starts counts v 4 (omega arith))
+      pub loop-goes-on : not b ≡ false → firstNo (drop (question + 1 - firstOfTables) asked) ≡ firstNo asked
+      loop-goes-on h =
+          let p : question + 1 - firstOfTables ≡ question - firstOfTables + 1 = omega arith in
+          rw p (sym (asked-yes asked (question - firstOfTables) there (sym isb ∙ not-false b h)) ∙ inv)
 
-    sounds-same : soundsOk (stored starts counts v) samples ≡ soundsFit (rowsIn v (getD starts 5 0) 3 (getD counts 5 0)) samples
-    unfolding soundsOk width
-    sounds-same = ap (λ (R : List (List ℕ)). soundsFit R samples) (rows-placed starts counts v 5 (omega arith))
+      pub loop-stops : not b ≡ true → question ≡ firstNo asked
+      loop-stops h =
+          let p : question ≡ firstOfTables + (question - firstOfTables) = omega arith in
+          p
+          ∙ sym (number-at firstOfTables asked in-order (question - firstOfTables) there)
+          ∙ sym (asked-no asked (question - firstOfTables) there (sym isb ∙ not-true b h))
+          ∙ inv
 
-    -- the questions left, of the places
-    number-rest : unmeasured starts counts v samples
-        ≡ asked (tablesPass false (countAt counts) blk starts counts v) 4
-        (asked (tablesPass true (countAt counts) blk starts counts v) 5
-        (asked (depthsFit (rowsIn v (getD starts 2 0) 2 (getD counts 2 0))) 6
-        (asked (routesFit (rowsIn v (getD starts 4 0) 3 (getD counts 4 0))) 7
-        (asked (soundsFit (rowsIn v (getD starts 5 0) 3 (getD counts 5 0)) samples) 8
-        (asked (samplesOk samples) 9 0)))))
-    unfolding answerOfTables
-    number-rest =
-        asked-same 3 (counts-are starts counts v ∙ fit)
-        (asked-same 4 ranges-same (asked-same 5 (references-are starts counts v blk) (asked-same 6 depths-same (asked-same 7 routes-same (asked-same 8 sounds-same (asked-same 9 refl (length-asked (stored starts counts v))))))))
-        ∙ asked-true 3 _
+  pub loop-ends : (question : ℕ) → lastOfTables < question → firstNo (drop (question - firstOfTables) asked) ≡ firstNo asked → 0 ≡ firstNo asked
+  loop-ends question h inv = sym (asked-all asked (question - firstOfTables) (omega (arith, count))) ∙ inv
 
-    pub number-4 : (b4 : Bool) → b4 ≡ tablesPass false (countAt counts) blk starts counts v → not b4 ≡ true
-        → 4 ≡ unmeasured starts counts v samples
-    unfolding asked
-    number-4 b4 e4 h4 = sym (number-rest ∙ rw (← e4, not-true b4 h4))
+-- ---- questions 1 to 9
 
-    pub number-5 : (b4 b5 : Bool) → b4 ≡ tablesPass false (countAt counts) blk starts counts v → not b4 ≡ false → b5 ≡ tablesPass true (countAt counts) blk starts counts v → not b5 ≡ true
-        → 5 ≡ unmeasured starts counts v samples
-    unfolding asked
-    number-5 b4 b5 e4 h4 e5 h5 = sym (number-rest ∙ rw (← e4, not-false b4 h4, ← e5, not-true b5 h5))
+module _ (file : List ℕ) (samples : List Float) (whole : Bool) where
+  abbrev pub all : List Question
+  all = also 8 whole (inputQuestions file samples)
 
-    pub number-6 : (b4 b5 b6 : Bool) → b4 ≡ tablesPass false (countAt counts) blk starts counts v → not b4 ≡ false → b5 ≡ tablesPass true (countAt counts) blk starts counts v → not b5 ≡ false → b6 ≡ depthsFit (rowsIn v (getD starts 2 0) 2 (getD counts 2 0)) → not b6 ≡ true
-        → 6 ≡ unmeasured starts counts v samples
-    unfolding asked
-    number-6 b4 b5 b6 e4 h4 e5 h5 e6 h6 = sym (number-rest ∙ rw (← e4, not-false b4 h4, ← e5, not-false b5 h5, ← e6, not-true b6 h6))
-
-    pub number-7 : (b4 b5 b6 b7 : Bool) → b4 ≡ tablesPass false (countAt counts) blk starts counts v → not b4 ≡ false → b5 ≡ tablesPass true (countAt counts) blk starts counts v → not b5 ≡ false → b6 ≡ depthsFit (rowsIn v (getD starts 2 0) 2 (getD counts 2 0)) → not b6 ≡ false → b7 ≡ routesFit (rowsIn v (getD starts 4 0) 3 (getD counts 4 0)) → not b7 ≡ true
-        → 7 ≡ unmeasured starts counts v samples
-    unfolding asked
-    number-7 b4 b5 b6 b7 e4 h4 e5 h5 e6 h6 e7 h7 = sym (number-rest ∙ rw (← e4, not-false b4 h4, ← e5, not-false b5 h5, ← e6, not-false b6 h6, ← e7, not-true b7 h7))
-
-    pub number-8 : (b4 b5 b6 b7 b8 : Bool) → b4 ≡ tablesPass false (countAt counts) blk starts counts v → not b4 ≡ false → b5 ≡ tablesPass true (countAt counts) blk starts counts v → not b5 ≡ false → b6 ≡ depthsFit (rowsIn v (getD starts 2 0) 2 (getD counts 2 0)) → not b6 ≡ false → b7 ≡ routesFit (rowsIn v (getD starts 4 0) 3 (getD counts 4 0)) → not b7 ≡ false → b8 ≡ soundsFit (rowsIn v (getD starts 5 0) 3 (getD counts 5 0)) samples → not b8 ≡ true
-        → 8 ≡ unmeasured starts counts v samples
-    unfolding asked
-    number-8 b4 b5 b6 b7 b8 e4 h4 e5 h5 e6 h6 e7 h7 e8 h8 = sym (number-rest ∙ rw (← e4, not-false b4 h4, ← e5, not-false b5 h5, ← e6, not-false b6 h6, ← e7, not-false b7 h7, ← e8, not-true b8 h8))
-
-    pub number-9 : (b4 b5 b6 b7 b8 b9 : Bool) → b4 ≡ tablesPass false (countAt counts) blk starts counts v → not b4 ≡ false → b5 ≡ tablesPass true (countAt counts) blk starts counts v → not b5 ≡ false → b6 ≡ depthsFit (rowsIn v (getD starts 2 0) 2 (getD counts 2 0)) → not b6 ≡ false → b7 ≡ routesFit (rowsIn v (getD starts 4 0) 3 (getD counts 4 0)) → not b7 ≡ false → b8 ≡ soundsFit (rowsIn v (getD starts 5 0) 3 (getD counts 5 0)) samples → not b8 ≡ false → b9 ≡ samplesOk samples → not b9 ≡ true
-        → 9 ≡ unmeasured starts counts v samples
-    unfolding asked
-    number-9 b4 b5 b6 b7 b8 b9 e4 h4 e5 h5 e6 h6 e7 h7 e8 h8 e9 h9 = sym (number-rest ∙ rw (← e4, not-false b4 h4, ← e5, not-false b5 h5, ← e6, not-false b6 h6, ← e7, not-false b7 h7, ← e8, not-false b8 h8, ← e9, not-true b9 h9))
-
-    pub number-0 : (b4 b5 b6 b7 b8 b9 : Bool) → b4 ≡ tablesPass false (countAt counts) blk starts counts v → not b4 ≡ false → b5 ≡ tablesPass true (countAt counts) blk starts counts v → not b5 ≡ false → b6 ≡ depthsFit (rowsIn v (getD starts 2 0) 2 (getD counts 2 0)) → not b6 ≡ false → b7 ≡ routesFit (rowsIn v (getD starts 4 0) 3 (getD counts 4 0)) → not b7 ≡ false → b8 ≡ soundsFit (rowsIn v (getD starts 5 0) 3 (getD counts 5 0)) samples → not b8 ≡ false → b9 ≡ samplesOk samples → not b9 ≡ false
-        → 0 ≡ unmeasured starts counts v samples
-    unfolding asked
-    number-0 b4 b5 b6 b7 b8 b9 e4 h4 e5 h5 e6 h6 e7 h7 e8 h8 e9 h9 = sym (number-rest ∙ rw (← e4, not-false b4 h4, ← e5, not-false b5 h5, ← e6, not-false b6 h6, ← e7, not-false b7 h7, ← e8, not-false b8 h8, ← e9, not-false b9 h9))
-
--- ---- 1 to 9
-
--- a question that lets the answer be 0
-pub asked-zero : (b : Bool) (n x : ℕ) → asked b (suc n) x ≡ 0 → (b ≡ true) × (x ≡ 0)
-unfolding asked
-asked-zero true n x e = (refl, e)
-asked-zero false n x e = absurd (omega arith)
-
-module _ (file : List ℕ) (samples : List Float) where
-  pub answered-1 : (b : Bool) (r : Answer) → b ≡ sizeOk file → not b ≡ true → r ≡ refusal 1 → r ≡ answered file samples (outputLength (tablesOf file))
-  unfolding answered answer asked
+  pub answered-1 : (b : Bool) (r : Answer) → b ≡ sizeOk file → not b ≡ true → r ≡ refusal 1 → r ≡ answered file (firstNo all)
+  unfolding answered also inputQuestions firstNo
   answered-1 b r e h p = rw (← e, not-true b h) p
 
   module _ (a : Bool) (isa : a ≡ sizeOk file) (yes-a : not a ≡ false) where
-    pub read-room : length file + 1 ≤ 8193 + 8193
-    read-room = let k : length file ≤ 16384 = size-small file (sym isa ∙ not-false a yes-a) in omega arith
-
-    pub small-file : length file ≤ 16384
+    pub small-file : length file ≤ fileBytes
     small-file = size-small file (sym isa ∙ not-false a yes-a)
 
-    module _ (l : Layout) (after : List ℕ) (read : LayoutRead file l after) where
-      pub answered-2 : (r : Answer) → not (l .ok) ≡ true → r ≡ refusal 2 → r ≡ answered file samples (outputLength (tablesOf file))
-      unfolding answered answer asked spelledOk
-      answered-2 r h p = rw (← isa, not-false a yes-a, ← read .answer, not-true (l .ok) h) p
+    module _ (before : List ℕ) (l : Layout) (after : List ℕ) (read : LayoutRead file before l after) where
+      pub answered-2 : (r : Answer) → not (l .ok) ≡ true → r ≡ refusal 2 → r ≡ answered file (firstNo all)
+      unfolding answered also inputQuestions firstNo spelledOk
+      answered-2 r h p = rw (← isa, not-false a yes-a, layout-test file before l after read ∙ not-true (l .ok) h) p
 
-      module _ (yes-l : not (l .ok) ≡ false) (n : ℕ) (isn : n ≡ unmeasured (l .starts) (l .counts) after samples) where
+      module _ (yes-l : not (l .ok) ≡ false) (n : ℕ) (isn : n ≡ firstNo (asked (l .starts) (l .counts) after samples whole)) where
         good : l .ok ≡ true
         good = not-false (l .ok) yes-l
 
-        answer-is : answer file samples (outputLength (tablesOf file)) ≡ n
-        unfolding answer asked spelledOk
-        answer-is = rw (← isa, not-false a yes-a, ← read .answer, good) (sym (isn ∙ ap (λ (ts : Tables). answerOfTables ts samples (outputLength ts)) (read-placed file l after read good)))
+        first-is : firstNo all ≡ n
+        unfolding also inputQuestions firstNo spelledOk
+        first-is =
+            rw (← isa, not-false a yes-a, layout-test file before l after read ∙ good)
+            (sym (isn ∙ ap (λ (ts : Tables). firstNo (also 8 whole (tableQuestions ts samples))) (read-placed file before l after read good)))
 
-        pub answered-n : (r : Answer) → (n ≡ 0 → ⊥) → r ≡ refusal n → r ≡ answered file samples (outputLength (tablesOf file))
+        pub answered-n : (r : Answer) → (n ≡ 0 → ⊥) → r ≡ refusal n → r ≡ answered file (firstNo all)
         unfolding answered
-        answered-n r h p = rw (answer-is, ne-eqb n 0 h) p
+        answered-n r h p = rw (first-is, ne-eqb n 0 h) p
 
+        -- question 3 said yes
         pub counts-known : n ≡ 0 → countsFit (l .counts) ≡ true
-        unfolding answerOfTables
-        counts-known h = sym (counts-are (l .starts) (l .counts) after) ∙ asked-zero (linesOk (stored (l .starts) (l .counts) after)) 2 _ (sym isn ∙ h) .0
+        unfolding byPlaces
+        counts-known h =
+            let q = asked-places (l .starts) (l .counts) after samples whole in
+            sym (ap (λ (p : List Question). questionAt p 0 .1) q) ∙ yes-at 2 (asked (l .starts) (l .counts) after samples whole) (in-order (l .starts) (l .counts) after samples whole) (sym isn ∙ h) 0
 
-        pub answered-0 : n ≡ 0 → (s : Scene) → s ≡ sceneOf (stored (l .starts) (l .counts) after) → _≡_ {A = Answer} (record { number = 0; scene = s }) (answered file samples (outputLength (tablesOf file)))
+        pub answered-0 : n ≡ 0 → (s : Scene) → s ≡ sceneOf (stored (l .starts) (l .counts) after) → _≡_ {A = Answer} (record { number = 0; scene = s }) (answered file (firstNo all))
         unfolding answered
-        answered-0 h s e = rw (answer-is, eq-eqb n 0 h, e, read-placed file l after read good)
+        answered-0 h s e = rw (first-is, eq-eqb n 0 h, e, read-placed file before l after read good)
 
 -- ---- an answer's parts
 
-module _ (file : List ℕ) (samples : List Float) (n : ℕ) {r : Answer} (e : r ≡ answered file samples n) where
-  by-number : (m : ℕ) (b : Bool) → eqb m 0 ≡ b → cond b (record { number = 0; scene = sceneOf (tablesOf file) }) (refusal m) .number ≡ m
+module _ (file : List ℕ) (n : ℕ) {r : Answer} (e : r ≡ answered file n) where
+  by-number : (b : Bool) → eqb n 0 ≡ b → cond b (record { number = 0; scene = sceneOf (tablesOf file) }) (refusal n) .number ≡ n
   unfolding refusal
-  by-number m true t = sym (eqb-true m 0 t)
-  by-number m false t = refl
+  by-number true t = sym (eqb-true n 0 t)
+  by-number false t = refl
 
-  pub answered-number : r .number ≡ answer file samples n
+  pub answered-number : r .number ≡ n
   unfolding answered
-  answered-number = ap (λ (x : Answer). x .number) e ∙ by-number (answer file samples n) (eqb (answer file samples n) 0) refl
+  answered-number = ap (λ (x : Answer). x .number) e ∙ by-number (eqb n 0) refl
 
   pub answered-scene : r .number ≡ 0 → r .scene ≡ sceneOf (tablesOf file)
   unfolding answered

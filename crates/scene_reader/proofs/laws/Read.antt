@@ -1,22 +1,25 @@
 -- Laws of what is read: the tables in their places are the file's tables, and lie low enough.
 use mathlib.Core.Path.{_≡_, refl, sym, _∙_, ap}
-use mathlib.Core.Bool.{true, false≢true}
+use mathlib.Core.Bool.{Bool, true, false, false≢true}
 use mathlib.Core.List.{List, [], _∷_, _++_, map, append-assoc}
 use Prim.Native.Nat.{ℕ, zero, suc, _+_, _*_, _<_, _≤_}
 use native.Mathlib.Nat.{zero-mul, suc-mul}
 use native.Mathlib.Omega.{arith}
 use borrow.Author.Tests.{eqb-true}
 use lib.Dec.{eqb}
-use lib.ListN.{length, getD, drop, length-append, length-map, length-take, take-append-drop}
+use lib.ListN.{length, getD, drop, length-append, length-map}
 use lib.Seq.{take-at, drop-at, getD-at}
+use Rattle.laws.proofs.laws.Choice.{and-left, and-right}
+use Rattle.limits.specs.Limits.{fileBytes}
+use Rattle.laws.specs.Pieces.{begun}
 use Rattle.scene_file.specs.declared.grammar.Layout.{Layout}
 use Rattle.scene_tables.specs.Bytes.{all, joined, bytesOf, sameBytes}
 use Rattle.scene_tables.specs.Tables.{Table, tables, noTable, width}
-use Rattle.scene_file.specs.Grammar.{linesOf, blocksOf, fieldsOf, valueOf, isNumber, isRow, rowOf, isBlock, isTable, rowsOf, areTables, tablesOf}
-use Rattle.scene_file.specs.Readings.{flat, startsFrom, LayoutRead}
+use Rattle.scene_file.specs.Grammar.{linesOf, sectionsOf, fieldsOf, valueOf, isNumber, isRow, rowOf, isTable, rowsOf, areTables, tablesOf}
+use Rattle.scene_file.specs.Readings.{flat, startsFrom, layoutOf, LayoutRead}
+use Rattle.scene_file.proofs.laws.Written.{tables-written}
 use Rattle.scene_questions.specs.Questions.{Tables}
 use Rattle.scene_questions.specs.Places.{cut, rowsIn, placedFrom, Low, stored}
-use Rattle.scene_questions.proofs.laws.Loops.{and-left, and-right}
 
 -- ---- every line of a table has its count of numbers
 
@@ -41,10 +44,10 @@ rows-wide w [] e = tt
 rows-wide w (line ∷ lines) e =
     (row-wide w line (and-left (isRow w line) (all (isRow w) lines) e), rows-wide w lines (and-right (isRow w line) (all (isRow w) lines) e))
 
-block-wide : (t : Table) (block : List (List ℕ)) → isTable t block ≡ true → Wide (width t) (rowsOf block)
-unfolding isTable isBlock rowsOf
-block-wide t [] e = tt
-block-wide t (line ∷ lines) e = rows-wide (width t) lines (and-right (sameBytes line (bytesOf (t .names))) (all (isRow (width t)) lines) e)
+section-wide : (t : Table) (section : List (List ℕ)) → isTable t section ≡ true → Wide (width t) (rowsOf section)
+unfolding isTable rowsOf
+section-wide t [] e = tt
+section-wide t (line ∷ lines) e = rows-wide (width t) lines (and-right (sameBytes line (bytesOf (t .names))) (all (isRow (width t)) lines) e)
 
 pub tables-fit : (ts : List Table) (bs : List (List (List ℕ))) → areTables ts bs ≡ true → Fit ts (map rowsOf bs)
 unfolding areTables
@@ -52,7 +55,7 @@ tables-fit [] [] e = tt
 tables-fit [] (b ∷ bs) e = absurd (false≢true e)
 tables-fit (t ∷ ts) [] e = absurd (false≢true e)
 tables-fit (t ∷ ts) (b ∷ bs) e =
-    (block-wide t b (and-left (isTable t b) (areTables ts bs) e), tables-fit ts bs (and-right (isTable t b) (areTables ts bs) e))
+    (section-wide t b (and-left (isTable t b) (areTables ts bs) e), tables-fit ts bs (and-right (isTable t b) (areTables ts bs) e))
 
 -- ---- numbers one after the other are cut into the lines again
 
@@ -110,21 +113,41 @@ ends (x ∷ ts) (rows ∷ Ts) a (suc t) h k =
 
 -- ---- of what is read
 
-module _ (file : List ℕ) (r : Layout) (after : List ℕ) (read : LayoutRead file r after) (ok : r .ok ≡ true) where
-  read-fit : Fit tables (tablesOf file)
-  unfolding tablesOf
-  read-fit = tables-fit tables (blocksOf (linesOf file)) (sym (read .answer) ∙ ok)
+module _ (file before : List ℕ) (r : Layout) (after : List ℕ) (read : LayoutRead file before r after) where
+  by-test : (b : Bool) → areTables tables (sectionsOf (linesOf file)) ≡ b → r .ok ≡ b
+  unfolding layoutOf
+  by-test true e = ap (λ (l : Layout). l .ok) (read .layout) ∙ rw e
+  by-test false e = ap (λ (l : Layout). l .ok) (read .layout) ∙ rw e
 
-  pub read-placed : stored (r .starts) (r .counts) after ≡ tablesOf file
-  unfolding stored
-  read-placed =
-      let e : after ≡ flat (tablesOf file) ++ drop (r .total) after = sym (take-append-drop (r .total) after) ∙ ap (λ (l : List ℕ). l ++ drop (r .total) after) (read .wrote ok) in
-      ap (λ (s : List ℕ). placedFrom tables 0 s (r .counts) after) (read .starts ok)
-      ∙ ap (λ (c : List ℕ). placedFrom tables 0 (startsFrom 0 (tablesOf file)) c after) (read .counts ok)
-      ∙ ap (λ (v : List ℕ). placedFrom tables 0 (startsFrom 0 (tablesOf file)) (map length (tablesOf file)) v) e
-      ∙ placed-back tables (tablesOf file) 0 [] [] [] (drop (r .total) after) read-fit refl refl
+  pub layout-test : areTables tables (sectionsOf (linesOf file)) ≡ r .ok
+  layout-test = sym (by-test (areTables tables (sectionsOf (linesOf file))) refl)
 
-  pub read-low : length file ≤ 16384 → Low (r .starts) (r .counts)
-  read-low small t h =
-      let k : length (flat (tablesOf file)) ≤ r .total = omega (arith, ap length (read .wrote ok), length-take (r .total) after) in
-      rw (read .starts ok, read .counts ok) (omega (arith, ends tables (tablesOf file) 0 t read-fit h, read .room ok))
+  module _ (ok : r .ok ≡ true) where
+    tables-ok : areTables tables (sectionsOf (linesOf file)) ≡ true
+    tables-ok = layout-test ∙ ok
+
+    read-fit : Fit tables (tablesOf file)
+    unfolding tablesOf
+    read-fit = tables-fit tables (sectionsOf (linesOf file)) tables-ok
+
+    starts-are : r .starts ≡ startsFrom 0 (tablesOf file)
+    unfolding layoutOf
+    starts-are = ap (λ (l : Layout). l .starts) (read .layout) ∙ rw tables-ok
+
+    counts-are : r .counts ≡ map length (tablesOf file)
+    unfolding layoutOf
+    counts-are = ap (λ (l : Layout). l .counts) (read .layout) ∙ rw tables-ok
+
+    -- the numbers, and then what stood there before
+    values-are : after ≡ flat (tablesOf file) ++ drop (length (flat (tablesOf file))) before
+    unfolding begun tablesOf
+    values-are = read .wrote ∙ ap (λ (l : List ℕ). begun l before) (tables-written tables (sectionsOf (linesOf file)) tables-ok)
+
+    pub read-placed : stored (r .starts) (r .counts) after ≡ tablesOf file
+    unfolding stored
+    read-placed =
+        rw (starts-are, counts-are, values-are)
+        (placed-back tables (tablesOf file) 0 [] [] [] (drop (length (flat (tablesOf file))) before) read-fit refl refl)
+
+    pub read-low : length file ≤ fileBytes → Low (r .starts) (r .counts)
+    read-low small t h = rw (starts-are, counts-are) (omega (arith, ends tables (tablesOf file) 0 t read-fit h, read .room ok))

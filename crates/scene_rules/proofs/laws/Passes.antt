@@ -12,15 +12,15 @@ use lib.ListN.{length, getD, take, drop, length-append, take-append-drop}
 use lib.Seq.{take-suc}
 use mir.Syntax.{w64}
 use mir.Val.{Fits}
+use Rattle.laws.proofs.laws.Choice.{and-false}
 use Rattle.scene_tables.specs.declared.tables.Field.{Field}
 use Rattle.scene_tables.specs.declared.tables.LineRule.{LineRule}
 use Rattle.scene_tables.specs.declared.tables.TableRule.{TableRule}
 use Rattle.scene_tables.specs.Bytes.{every}
-use Rattle.scene_tables.specs.Tables.{Table, tables, noTable, noField, width}
+use Rattle.scene_tables.specs.Tables.{Table, tables, tableAt, noTable, noField, width}
 use Rattle.scene_tables.specs.InCode.{allFields, ruleOf}
-use Rattle.scene_file.proofs.laws.Small.{and-false}
-use Rattle.scene_questions.specs.Places.{countsFit, fieldPasses, linePasses, fieldsPass, tablePasses, tablesPass, Low}
-use Rattle.scene_questions.proofs.laws.Loops.{every-none, every-passed, every-failed, every-done}
+use Rattle.scene_questions.specs.Places.{countsFit, fieldPasses, linePasses, fieldsPass, tablePasses, tablesPass, placesMost, Low}
+use Rattle.scene_tables.proofs.laws.Every.{every-none, every-passed, every-failed, every-done}
 
 -- ---- the fields of a line
 
@@ -60,18 +60,18 @@ module _ (references : Bool) (lines : ℕ → ℕ) (first own : ℕ) (values : L
 -- ---- the counts of lines
 
 unfoldable pub countFits : List ℕ → ℕ → Bool
-countFits counts t = leb (getD tables t noTable .least) (getD counts t 0) && leb (getD counts t 0) (getD tables t noTable .most)
+countFits counts t = leb (tableAt t .least) (getD counts t 0) && leb (getD counts t 0) (tableAt t .most)
 
 module _ (counts : List ℕ) where
   pub counts-none : every 0 (countFits counts) ≡ true
   counts-none = every-none (countFits counts)
 
-  module _ (t : ℕ) (rule : TableRule) (ruled : rule ≡ ruleOf (getD tables t noTable)) where
-    least-is : rule .least ≡ getD tables t noTable .least
+  module _ (t : ℕ) (rule : TableRule) (ruled : rule ≡ ruleOf (tableAt t)) where
+    least-is : rule .least ≡ tableAt t .least
     unfolding ruleOf
     least-is = rw ruled
 
-    most-is : rule .most ≡ getD tables t noTable .most
+    most-is : rule .most ≡ tableAt t .most
     unfolding ruleOf
     most-is = rw ruled
 
@@ -99,7 +99,7 @@ module _ (counts : List ℕ) where
 pub line-next : (start w i a : ℕ) → a ≡ start + i * w → a + w ≡ start + (i + 1) * w
 line-next start w i a e = rw (add-one i, suc-mul i w, e) (omega arith)
 
-pub line-fits : (start w n i a : ℕ) → a ≡ start + i * w → i < n → start + n * w ≤ 100000 → Fits w64 (a + w)
+pub line-fits : (start w n i a : ℕ) → a ≡ start + i * w → i < n → start + n * w ≤ placesMost → Fits w64 (a + w)
 line-fits start w n i a e h k = omega (arith, e, suc-mul i w, mul-le-mul-right {m = suc i} {n = n} w h)
 
 module _ (references : Bool) (lines : ℕ → ℕ) (blocks : ℕ) (rule : LineRule) (first w : ℕ) (values : List ℕ) (start : ℕ) where
@@ -139,7 +139,7 @@ fields-join (x ∷ xs) ys = rw (fields-join xs ys) (sym (append-assoc (x .fields
 
 fields-next-of : (ts : List Table) (t : ℕ) → t < length ts
     → length (allFields (take t ts)) + width (getD ts t noTable) ≡ length (allFields (take (t + 1) ts))
-unfolding allFields width
+unfolding allFields
 fields-next-of ts t h =
     sym (
     rw (add-one t, take-suc ts t noTable h)
@@ -150,19 +150,19 @@ fields-next-of ts t h =
 
 -- where the fields of a table stand among all fields
 pub fields-next : (t : ℕ) → t < length tables
-    → length (allFields (take t tables)) + width (getD tables t noTable) ≡ length (allFields (take (t + 1) tables))
+    → length (allFields (take t tables)) + width (tableAt t) ≡ length (allFields (take (t + 1) tables))
 fields-next t h = fields-next-of tables t h
 
 fields-all : (t : ℕ) → length (allFields (take t tables)) ≤ length (allFields tables)
 fields-all t =
     omega (arith, length-append (allFields (take t tables)) (allFields (drop t tables)), ap length (fields-join (take t tables) (drop t tables)), ap (λ (l : List Table). length (allFields l)) (take-append-drop t tables))
 
-module _ (t first : ℕ) (place : first ≡ length (allFields (take t tables))) (more : t < length tables) (rule : TableRule) (ruled : rule ≡ ruleOf (getD tables t noTable)) where
-  width-is : rule .fields ≡ width (getD tables t noTable)
+module _ (t first : ℕ) (place : first ≡ length (allFields (take t tables))) (more : t < length tables) (rule : TableRule) (ruled : rule ≡ ruleOf (tableAt t)) where
+  width-is : rule .fields ≡ width (tableAt t)
   unfolding ruleOf
   width-is = rw ruled
 
-  rule-is : rule .rule ≡ getD tables t noTable .rule
+  rule-is : rule .rule ≡ tableAt t .rule
   unfolding ruleOf
   rule-is = rw ruled
 
@@ -174,15 +174,15 @@ module _ (t first : ℕ) (place : first ≡ length (allFields (take t tables))) 
 
   pub first-fits : Fits w64 (first + rule .fields)
   unfolding allFields
-  first-fits = let k : first + rule .fields ≤ 28 = first-room in omega arith
+  first-fits = let k : first + rule .fields ≤ length (allFields tables) = first-room in omega arith
 
-  pub lines-low : (starts counts : List ℕ) → Low starts counts → getD starts t 0 + getD counts t 0 * rule .fields ≤ 100000
+  pub lines-low : (starts counts : List ℕ) → Low starts counts → getD starts t 0 + getD counts t 0 * rule .fields ≤ placesMost
   lines-low starts counts h = rw width-is (h t more)
 
 module _ (references : Bool) (lines : ℕ → ℕ) (blocks : ℕ) (starts counts values : List ℕ) where
   unfoldable pub tableTest : ℕ → Bool
   tableTest t =
-      tablePasses references lines blocks (getD tables t noTable .rule) (length (allFields (take t tables))) (width (getD tables t noTable)) values (getD starts t 0) (getD counts t 0)
+      tablePasses references lines blocks (tableAt t .rule) (length (allFields (take t tables))) (width (tableAt t)) values (getD starts t 0) (getD counts t 0)
 
   pub tables-none : every 0 tableTest ≡ true
   tables-none = every-none tableTest
@@ -191,7 +191,7 @@ module _ (references : Bool) (lines : ℕ → ℕ) (blocks : ℕ) (starts counts
       (t first : ℕ)
       (place : first ≡ length (allFields (take t tables)))
       (rule : TableRule)
-      (ruled : rule ≡ ruleOf (getD tables t noTable))
+      (ruled : rule ≡ ruleOf (tableAt t))
       (more : t < length tables)
       (b : Bool)
       (isb : b ≡ tablePasses references lines blocks (rule .rule) first (rule .fields) values (getD starts t 0) (getD counts t 0))
@@ -201,8 +201,8 @@ module _ (references : Bool) (lines : ℕ → ℕ) (blocks : ℕ) (starts counts
       table-is =
           isb
           ∙ ap (λ (q : LineRule). tablePasses references lines blocks q first (rule .fields) values (getD starts t 0) (getD counts t 0)) (rule-is t first place more rule ruled)
-          ∙ ap (λ (q : ℕ). tablePasses references lines blocks (getD tables t noTable .rule) first q values (getD starts t 0) (getD counts t 0)) (width-is t first place more rule ruled)
-          ∙ ap (λ (q : ℕ). tablePasses references lines blocks (getD tables t noTable .rule) q (width (getD tables t noTable)) values (getD starts t 0) (getD counts t 0)) place
+          ∙ ap (λ (q : ℕ). tablePasses references lines blocks (tableAt t .rule) first q values (getD starts t 0) (getD counts t 0)) (width-is t first place more rule ruled)
+          ∙ ap (λ (q : ℕ). tablePasses references lines blocks (tableAt t .rule) q (width (tableAt t)) values (getD starts t 0) (getD counts t 0)) place
 
       pub table-failed : b ≡ false → false ≡ tablesPass references lines blocks starts counts values
       unfolding tablesPass tableTest

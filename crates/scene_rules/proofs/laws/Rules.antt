@@ -9,16 +9,16 @@ use lib.IntN.{pos}
 use lib.ListN.{getD, drop}
 use lib.Seq.{getD-drop}
 use lib.Ieee.{Float, binary64, ofBits, ofInt, div, le}
+use Rattle.laws.proofs.laws.Choice.{and-false}
 use Rattle.clock.specs.declared.clock_speed.ClockSpeed.{ClockSpeed}
 use Rattle.clock.specs.declared.clock_speed.ClockSpeed.the-variants.{SecondsPerTick, TicksPerSecond, TicksPerMinute}
 use Rattle.clock.specs.ClockSpeed.{asTicksPerSecond, allowedSpeed}
 use Rattle.scene_tables.specs.declared.tables.Field.{Field}
-use Rattle.scene_tables.specs.declared.tables.Field.the-variants.{Number, Line, Earlier, Target}
+use Rattle.scene_tables.specs.declared.tables.Field.the-variants.{Number, Line, Earlier, Index}
 use Rattle.scene_tables.specs.declared.tables.LineRule.{LineRule}
 use Rattle.scene_tables.specs.declared.tables.LineRule.the-variants.{Plain, Speed, Order}
-use Rattle.scene_tables.specs.Tables.{natural}
-use Rattle.scene_file.proofs.laws.Small.{and-false}
-use Rattle.scene_questions.specs.Questions.{inRange, namesLine, lineInRange, lineNamesLine, speedNumber, speedOf, orderFits, volumeFits, partFits, millisFit, powerFits, indexNamesLine, targetTable}
+use Rattle.scene_tables.specs.Tables.{raised, natural, clockColumn, orderColumn, orderKind}
+use Rattle.scene_questions.specs.Questions.{inRange, namesLine, lineInRange, lineNamesLine, speedOf, orderFits, volumeFits, partFits, millisFit, powerFits, indexNamesLine, indexTable}
 use Rattle.scene_questions.specs.Places.{fieldPasses, linePasses}
 
 -- ---- a field
@@ -40,7 +40,7 @@ module _ (f : Field) (z : ℕ) where
   unfolding inRange
   in-earlier e = rw e
 
-  pub in-target : f ≡ Target → true ≡ inRange f z
+  pub in-target : f ≡ Index → true ≡ inRange f z
   unfolding inRange
   in-target e = rw e
 
@@ -57,15 +57,15 @@ module _ (lines : ℕ → ℕ) (f : Field) (own z : ℕ) where
   unfolding namesLine
   names-there k a n m e h p q = rw (e, le-leb a z h, p, q)
 
-  pub earlier-low : f ≡ Earlier → z < 2147483648 → false ≡ namesLine lines f own z
+  pub earlier-low : f ≡ Earlier → z < raised 0 → false ≡ namesLine lines f own z
   unfolding namesLine
-  earlier-low e h = rw (e, lt-leb 2147483648 z h)
+  earlier-low e h = rw (e, lt-leb (raised 0) z h)
 
-  pub earlier-there : (n : ℕ) → f ≡ Earlier → 2147483648 ≤ z → n ≡ natural z → leb n own ≡ namesLine lines f own z
+  pub earlier-there : (n : ℕ) → f ≡ Earlier → raised 0 ≤ z → n ≡ natural z → leb n own ≡ namesLine lines f own z
   unfolding namesLine
-  earlier-there n e h p = rw (e, le-leb 2147483648 z h, p)
+  earlier-there n e h p = rw (e, le-leb (raised 0) z h, p)
 
-  pub names-target : f ≡ Target → true ≡ namesLine lines f own z
+  pub names-target : f ≡ Index → true ≡ namesLine lines f own z
   unfolding namesLine
   names-target e = rw e
 
@@ -88,21 +88,20 @@ unfolding ofBits ofInt
 nought = refl
 
 module _ (unit speed n : ℕ) (is : n ≡ natural speed) where
-  number-is : div binary64 (ofInt binary64 (pos n)) (ofBits binary64 4652007308841189376) ≡ speedNumber speed
-  unfolding speedNumber
+  number-is : div binary64 (ofInt binary64 (pos n)) (ofBits binary64 4652007308841189376) ≡ div binary64 (ofInt binary64 (pos (natural speed))) (ofInt binary64 (pos 1000))
   number-is = rw (is, thousand)
 
-  pub speed-seconds : unit ≡ 2147483648 → SecondsPerTick (div binary64 (ofInt binary64 (pos n)) (ofBits binary64 4652007308841189376)) ≡ speedOf unit speed
+  pub speed-seconds : unit ≡ raised 0 → SecondsPerTick (div binary64 (ofInt binary64 (pos n)) (ofBits binary64 4652007308841189376)) ≡ speedOf unit speed
   unfolding speedOf
   speed-seconds e = rw (number-is, e)
 
-  pub speed-ticks : (unit ≡ 2147483648 → ⊥) → unit ≡ 2147483649 → TicksPerSecond (div binary64 (ofInt binary64 (pos n)) (ofBits binary64 4652007308841189376)) ≡ speedOf unit speed
+  pub speed-ticks : (unit ≡ raised 0 → ⊥) → unit ≡ raised 1 → TicksPerSecond (div binary64 (ofInt binary64 (pos n)) (ofBits binary64 4652007308841189376)) ≡ speedOf unit speed
   unfolding speedOf
   speed-ticks d e = rw (number-is, e)
 
-  pub speed-minutes : (unit ≡ 2147483648 → ⊥) → (unit ≡ 2147483649 → ⊥) → TicksPerMinute (div binary64 (ofInt binary64 (pos n)) (ofBits binary64 4652007308841189376)) ≡ speedOf unit speed
+  pub speed-minutes : (unit ≡ raised 0 → ⊥) → (unit ≡ raised 1 → ⊥) → TicksPerMinute (div binary64 (ofInt binary64 (pos n)) (ofBits binary64 4652007308841189376)) ≡ speedOf unit speed
   unfolding speedOf
-  speed-minutes d e = rw (number-is, ne-eqb unit 2147483648 d, ne-eqb unit 2147483649 e)
+  speed-minutes d e = rw (number-is, ne-eqb unit (raised 0) d, ne-eqb unit (raised 1) e)
 
 module _ (s : ClockSpeed) (ticks : Float) (is : ticks ≡ asTicksPerSecond s) (t : ClockSpeed) (which : s ≡ t) where
   pub speed-high : le (ofBits binary64 0) ticks ≡ true → le ticks (ofBits binary64 4652007308841189376) ≡ allowedSpeed t
@@ -117,53 +116,53 @@ module _ (s : ClockSpeed) (ticks : Float) (is : ticks ≡ asTicksPerSecond s) (t
 
 order-fields : (v : List ℕ) (a blocks : ℕ)
     → orderFits blocks (drop a v)
-    ≡ (ltb (getD v (a + 0) 0) blocks
-    && volumeFits (getD v (a + 1) 0) (getD v (a + 3) 0)
-    && partFits (getD v (a + 4) 0) (getD v (a + 6) 0)
-    && millisFit (getD v (a + 1) 0) (getD v (a + 4) 0) (getD v (a + 5) 0) (getD v (a + 7) 0)
-    && powerFits (getD v (a + 8) 0) (getD v (a + 9) 0))
+    ≡ (ltb (getD v (a + orderColumn .block) 0) blocks
+    && volumeFits (getD v (a + orderColumn .kind) 0) (getD v (a + orderColumn .volume) 0)
+    && partFits (getD v (a + orderColumn .clock) 0) (getD v (a + orderColumn .part) 0)
+    && millisFit (getD v (a + orderColumn .kind) 0) (getD v (a + orderColumn .clock) 0) (getD v (a + orderColumn .when) 0) (getD v (a + orderColumn .millis) 0)
+    && powerFits (getD v (a + orderColumn .easing) 0) (getD v (a + orderColumn .power) 0))
 unfolding orderFits
 order-fields v a blocks = simp getD-drop
 
 module _ (v : List ℕ) (a blocks : ℕ) where
-  pub order-late : (x0 : ℕ) → x0 ≡ getD v (a + 0) 0 → blocks ≤ x0 → false ≡ orderFits blocks (drop a v)
-  order-late x0 is0 h = rw (order-fields v a blocks, ← is0, le-ltb x0 blocks h)
+  pub order-late : (block : ℕ) → block ≡ getD v (a + orderColumn .block) 0 → blocks ≤ block → false ≡ orderFits blocks (drop a v)
+  order-late block is-block h = rw (order-fields v a blocks, ← is-block, le-ltb block blocks h)
 
-  pub order-volume : (x1 x3 : ℕ) (p : Bool) → p ≡ volumeFits x1 x3 → x1 ≡ getD v (a + 1) 0 → x3 ≡ getD v (a + 3) 0 → p ≡ false
+  pub order-volume : (kind volume : ℕ) (p : Bool) → p ≡ volumeFits kind volume → kind ≡ getD v (a + orderColumn .kind) 0 → volume ≡ getD v (a + orderColumn .volume) 0 → p ≡ false
       → false ≡ orderFits blocks (drop a v)
-  order-volume x1 x3 p isp is1 is3 h = rw (order-fields v a blocks, ← is1, ← is3, ← isp, h, and-false)
+  order-volume kind volume p isp is-kind is-volume h = rw (order-fields v a blocks, ← is-kind, ← is-volume, ← isp, h, and-false)
 
-  pub order-part : (x4 x6 : ℕ) (q : Bool) → q ≡ partFits x4 x6 → x4 ≡ getD v (a + 4) 0 → x6 ≡ getD v (a + 6) 0 → q ≡ false
+  pub order-part : (clock part : ℕ) (q : Bool) → q ≡ partFits clock part → clock ≡ getD v (a + orderColumn .clock) 0 → part ≡ getD v (a + orderColumn .part) 0 → q ≡ false
       → false ≡ orderFits blocks (drop a v)
-  order-part x4 x6 q isq is4 is6 h = rw (order-fields v a blocks, ← is4, ← is6, ← isq, h, and-false)
+  order-part clock part q isq is-clock is-part h = rw (order-fields v a blocks, ← is-clock, ← is-part, ← isq, h, and-false)
 
-  pub order-millis : (x1 x4 x5 x7 : ℕ) (r : Bool) → x1 ≡ getD v (a + 1) 0 → x4 ≡ getD v (a + 4) 0
-      → x5 ≡ getD v (a + 5) 0 → x7 ≡ getD v (a + 7) 0 → r ≡ millisFit x1 x4 x5 x7 → r ≡ false → false ≡ orderFits blocks (drop a v)
-  order-millis x1 x4 x5 x7 r is1 is4 is5 is7 isr h =
-      rw (order-fields v a blocks, ← is1, ← is4, ← is5, ← is7, ← isr, h, and-false)
+  pub order-millis : (kind clock when millis : ℕ) (r : Bool) → kind ≡ getD v (a + orderColumn .kind) 0 → clock ≡ getD v (a + orderColumn .clock) 0
+      → when ≡ getD v (a + orderColumn .when) 0 → millis ≡ getD v (a + orderColumn .millis) 0 → r ≡ millisFit kind clock when millis → r ≡ false → false ≡ orderFits blocks (drop a v)
+  order-millis kind clock when millis r is-kind is-clock is-when is-millis isr h =
+      rw (order-fields v a blocks, ← is-kind, ← is-clock, ← is-when, ← is-millis, ← isr, h, and-false)
 
-  pub order-power : (x0 x1 x3 x4 x5 x6 x7 x8 x9 : ℕ) (p q r s : Bool)
-      → x0 ≡ getD v (a + 0) 0 → x1 ≡ getD v (a + 1) 0 → x3 ≡ getD v (a + 3) 0 → x4 ≡ getD v (a + 4) 0 → x5 ≡ getD v (a + 5) 0
-      → x6 ≡ getD v (a + 6) 0 → x7 ≡ getD v (a + 7) 0 → x8 ≡ getD v (a + 8) 0 → x9 ≡ getD v (a + 9) 0
-      → p ≡ volumeFits x1 x3 → q ≡ partFits x4 x6 → r ≡ millisFit x1 x4 x5 x7 → s ≡ powerFits x8 x9
-      → x0 < blocks → p ≡ true → q ≡ true → r ≡ true → s ≡ orderFits blocks (drop a v)
-  order-power x0 x1 x3 x4 x5 x6 x7 x8 x9 p q r s is0 is1 is3 is4 is5 is6 is7 is8 is9 isp isq isr iss o hp hq hr =
-      rw (order-fields v a blocks, ← is0, ← is1, ← is3, ← is4, ← is5, ← is6, ← is7, ← is8, ← is9, ← isp, ← isq, ← isr, ← iss, lt-ltb x0 blocks o, hp, hq, hr)
+  pub order-power : (block kind volume clock when part millis easing power : ℕ) (p q r s : Bool)
+      → block ≡ getD v (a + orderColumn .block) 0 → kind ≡ getD v (a + orderColumn .kind) 0 → volume ≡ getD v (a + orderColumn .volume) 0 → clock ≡ getD v (a + orderColumn .clock) 0 → when ≡ getD v (a + orderColumn .when) 0
+      → part ≡ getD v (a + orderColumn .part) 0 → millis ≡ getD v (a + orderColumn .millis) 0 → easing ≡ getD v (a + orderColumn .easing) 0 → power ≡ getD v (a + orderColumn .power) 0
+      → p ≡ volumeFits kind volume → q ≡ partFits clock part → r ≡ millisFit kind clock when millis → s ≡ powerFits easing power
+      → block < blocks → p ≡ true → q ≡ true → r ≡ true → s ≡ orderFits blocks (drop a v)
+  order-power block kind volume clock when part millis easing power p q r s is-block is-kind is-volume is-clock is-when is-part is-millis is-easing is-power isp isq isr iss o hp hq hr =
+      rw (order-fields v a blocks, ← is-block, ← is-kind, ← is-volume, ← is-clock, ← is-when, ← is-part, ← is-millis, ← is-easing, ← is-power, ← isp, ← isq, ← isr, ← iss, lt-ltb block blocks o, hp, hq, hr)
 
 -- ---- an order's index
 
 module _ (lines : ℕ → ℕ) (kind index : ℕ) where
-  pub index-main : kind ≡ 2147483648 → eqb index 2147483648 ≡ indexNamesLine lines kind index
+  pub index-main : kind ≡ orderKind .mainVolume → eqb index (raised 0) ≡ indexNamesLine lines kind index
   unfolding indexNamesLine
-  index-main h = rw (eq-eqb kind 2147483648 h)
+  index-main h = rw (eq-eqb kind (orderKind .mainVolume) h)
 
-  pub index-low : (kind ≡ 2147483648 → ⊥) → index < 2147483649 → false ≡ indexNamesLine lines kind index
+  pub index-low : (kind ≡ orderKind .mainVolume → ⊥) → index < raised 1 → false ≡ indexNamesLine lines kind index
   unfolding indexNamesLine
-  index-low h k = rw (ne-eqb kind 2147483648 h, lt-leb 2147483649 index k)
+  index-low h k = rw (ne-eqb kind (orderKind .mainVolume) h, lt-leb (raised 1) index k)
 
-  pub index-there : (n m t : ℕ) → (kind ≡ 2147483648 → ⊥) → 2147483649 ≤ index → n ≡ natural index → t ≡ targetTable kind → m ≡ lines t → leb n m ≡ indexNamesLine lines kind index
+  pub index-there : (n m t : ℕ) → (kind ≡ orderKind .mainVolume → ⊥) → raised 1 ≤ index → n ≡ natural index → t ≡ indexTable kind → m ≡ lines t → leb n m ≡ indexNamesLine lines kind index
   unfolding indexNamesLine
-  index-there n m t h k p u q = rw (ne-eqb kind 2147483648 h, le-leb 2147483649 index k, p, q, u)
+  index-there n m t h k p u q = rw (ne-eqb kind (orderKind .mainVolume) h, le-leb (raised 1) index k, p, q, u)
 
 -- ---- a line
 
@@ -177,15 +176,15 @@ module _ (lines : ℕ → ℕ) (blocks : ℕ) (rule : LineRule) (v : List ℕ) (
   unfolding linePasses lineNamesLine
   line-speed-5 references e h = rw (h, e)
 
-  pub line-speed-4 : (references r : Bool) (x0 x1 : ℕ) → rule ≡ Speed → references ≡ false → x0 ≡ getD v (a + 0) 0 → x1 ≡ getD v (a + 1) 0
-      → r ≡ allowedSpeed (speedOf x0 x1) → r ≡ linePasses references lines blocks rule (drop a v)
+  pub line-speed-4 : (references r : Bool) (unit speed : ℕ) → rule ≡ Speed → references ≡ false → unit ≡ getD v (a + clockColumn .unit) 0 → speed ≡ getD v (a + clockColumn .speed) 0
+      → r ≡ allowedSpeed (speedOf unit speed) → r ≡ linePasses references lines blocks rule (drop a v)
   unfolding linePasses lineInRange
-  line-speed-4 references r x0 x1 e h p q k = rw (h, e, getD-drop a v 0 0, getD-drop a v 1 0, ← p, ← q) k
+  line-speed-4 references r unit speed e h p q k = rw (h, e, getD-drop a v (clockColumn .unit) 0, getD-drop a v (clockColumn .speed) 0, ← p, ← q) k
 
-  pub line-order-5 : (references r : Bool) (x1 x2 : ℕ) → rule ≡ Order → references ≡ true → x1 ≡ getD v (a + 1) 0 → x2 ≡ getD v (a + 2) 0
-      → r ≡ indexNamesLine lines x1 x2 → r ≡ linePasses references lines blocks rule (drop a v)
+  pub line-order-5 : (references r : Bool) (kind index : ℕ) → rule ≡ Order → references ≡ true → kind ≡ getD v (a + orderColumn .kind) 0 → index ≡ getD v (a + orderColumn .index) 0
+      → r ≡ indexNamesLine lines kind index → r ≡ linePasses references lines blocks rule (drop a v)
   unfolding linePasses lineNamesLine
-  line-order-5 references r x1 x2 e h p q k = rw (h, e, getD-drop a v 1 0, getD-drop a v 2 0, ← p, ← q) k
+  line-order-5 references r kind index e h p q k = rw (h, e, getD-drop a v (orderColumn .kind) 0, getD-drop a v (orderColumn .index) 0, ← p, ← q) k
 
   pub line-order-4 : (references r : Bool) → rule ≡ Order → references ≡ false → r ≡ orderFits blocks (drop a v) → r ≡ linePasses references lines blocks rule (drop a v)
   unfolding linePasses lineInRange

@@ -7,6 +7,7 @@ use native.Mathlib.Omega.{arith}
 use lib.Dec.{lit≤}
 use lib.ListN.{length, getD, take, drop}
 use lib.Ieee.{Float}
+use Rattle.chunk.specs.Flat.{soundLeftsFrom}
 use Rattle.laws.specs.Pieces.{pieces, begun, putAt}
 use Rattle.laws.proofs.laws.Pieces.{pieces-zero, pieces-suc, pieces-next, pieces-cong, length-pieces, part-put, put-turn, begun-turn}
 use Rattle.clock.specs.declared.when_to_start.Clocks.{Clocks}
@@ -76,38 +77,38 @@ run-turn f first j w out₀ {out} {last} each inside e q =
     ∙ put-turn (first * w) (pieces f j) last out₀ inside e (add-mul first j w ∙ ap (λ (n : ℕ). first * w + n) (sym (length-pieces f w j (λ i b. each i))))
     ∙ ap (λ (p : List Float). putAt (first * w) p out₀) (ap (λ (p : List Float). pieces f j ++ p) q ∙ sym (pieces-next f j))
 
-module _ {s : Scene} {m : Mixer} {first : ℕ} {samples : List Float} (ask : RunOk s m first samples) (j : ℕ) {places : List ℕ} {values : List Float} (h : StandsStill s m places values (blocksRun s j m)) where
+module _ {s : Scene} {m : Mixer} {first : ℕ} {samples : List Float} (ask : RunOk s m first samples) (j : ℕ) {places : List ℕ} {levels amplitudes : List Float} (h : StandsStill s m places levels amplitudes (blocksRun s j m)) where
   reached : MixerOk s (ask .chunks + j * chunkCount (s .head)) (blocksRun s j m)
   reached = run-ok s m (ask .scene) (ask .chunks) j (ask .mixer)
 
-  pub run-left : (k : ℕ) → k < s .«sound_count» → getD places (320 + k) 0 ≤ soundLine s k .count
-  run-left k b = le-trans (le-of-eq (stands-left s (blocksRun s j m) places values (ask .scene) (h .stands) k b)) (omega arith)
+  pub run-left : (k : ℕ) → k < s .«sound_count» → getD places (soundLeftsFrom + k) 0 ≤ soundLine s k .count
+  run-left k b = le-trans (le-of-eq (stands-left s (blocksRun s j m) places levels amplitudes (ask .scene) (h .stands) k b)) (omega arith)
 
   pub run-mixer : {clocks : Clocks} {played : List ℕ} {mixer : Mixer} {count : ℕ} → clocks ≡ blocksRun s j m .clocks → played ≡ playedBy s places (m .played) → mixer ≡ afterRun clocks played m → j ≡ count → mixer ≡ blocksRun s count m
   run-mixer p q r e =
-      r ∙ mixer-again s m (ask .scene) (ask .chunks + j * chunkCount (s .head)) places values (blocksRun s j m) (ask .mixer .soundPlaces) reached h p q ∙ ap (λ (i : ℕ). blocksRun s i m) e
+      r ∙ mixer-again s m (ask .scene) (ask .chunks + j * chunkCount (s .head)) places levels amplitudes (blocksRun s j m) (ask .mixer .soundPlaces) reached h p q ∙ ap (λ (i : ℕ). blocksRun s i m) e
 
-  pub run-places : {next : List ℕ} → next ≡ stillPlaces (s .head) (chunkCount (s .head)) places → StandsStill s m next values (blocksRun s (j + 1) m)
-  run-places q = subst (λ (l : List ℕ). StandsStill s m l values (blocksRun s (j + 1) m)) (sym q) (stands-next s m (ask .scene) (ask .chunks) j places values (ask .mixer) h)
+  pub run-places : {next : List ℕ} → next ≡ stillPlaces (s .head) (chunkCount (s .head)) places → StandsStill s m next levels amplitudes (blocksRun s (j + 1) m)
+  run-places q = subst (λ (l : List ℕ). StandsStill s m l levels amplitudes (blocksRun s (j + 1) m)) (sym q) (stands-next s m (ask .scene) (ask .chunks) j places levels amplitudes (ask .mixer) h)
 
   module _ {clocks : Clocks} (e : clocks ≡ blocksRun s j m .clocks) where
-    pub run-asks : {end : ℕ} → end ≡ nextOrders s first → j < end - first → StillOk (s .head) places values samples clocks
+    pub run-asks : {end : ℕ} → end ≡ nextOrders s first → j < end - first → StillOk (s .head) places levels amplitudes samples clocks
     run-asks stops l =
-        subst (StillOk (s .head) places values samples) (sym e)
-        (still-ok s m places values (blocksRun s j m) (ask .chunks + j * chunkCount (s .head)) (ask .scene) reached h samples (ask .there) (chunks-left ask stops l))
+        subst (StillOk (s .head) places levels amplitudes samples) (sym e)
+        (still-ok s m places levels amplitudes (blocksRun s j m) (ask .chunks + j * chunkCount (s .head)) (ask .scene) reached h samples (ask .there) (chunks-left ask stops l))
 
     pub run-clocks : {next : Clocks} → next ≡ stillClocks (s .head) (chunkCount (s .head)) clocks → next ≡ blocksRun s (j + 1) m .clocks
     run-clocks q =
         q
         ∙ ap (stillClocks (s .head) (chunkCount (s .head))) e
-        ∙ sym (still-clocks s m places values (blocksRun s j m) (ask .chunks + j * chunkCount (s .head)) (ask .scene) reached h (chunkCount (s .head)))
+        ∙ sym (still-clocks s m places levels amplitudes (blocksRun s j m) (ask .chunks + j * chunkCount (s .head)) (ask .scene) reached h (chunkCount (s .head)))
         ∙ ap (λ (x : Mixer). x .clocks) (sym (run-plus s m j))
 
-  pub run-samples : (out₀ : List Float) {out last : List Float} → length out₀ ≡ s .head .block * s .head .blocks * s .head .channels → out ≡ putAt (first * blockWidth s) (pieces (runPiece s samples m) j) out₀ → last ≡ stillSamples (s .head) places values samples
+  pub run-samples : (out₀ : List Float) {out last : List Float} → length out₀ ≡ s .head .block * s .head .blocks * s .head .channels → out ≡ putAt (first * blockWidth s) (pieces (runPiece s samples m) j) out₀ → last ≡ stillSamples (s .head) places levels amplitudes samples
       → take ((first + j) * blockWidth s) out ++ (last ++ drop ((first + j) * blockWidth s + blockWidth s - (first + j) * blockWidth s) (drop ((first + j) * blockWidth s) out)) ≡ putAt (first * blockWidth s) (pieces (runPiece s samples m) (j + 1)) out₀
   run-samples out₀ long p q =
       run-turn (runPiece s samples m) first j (blockWidth s) out₀ (λ i. length-block s samples (blocksRun s i m) (ask .scene .buffer .0)) (le-trans (le-trans (omega arith) (block-ends s first (ask .inside))) (le-of-eq (sym long))) p
-      (q ∙ sym (steady-block s m places values (blocksRun s j m) (ask .chunks + j * chunkCount (s .head)) (ask .scene) reached h samples))
+      (q ∙ sym (steady-block s m places levels amplitudes (blocksRun s j m) (ask .chunks + j * chunkCount (s .head)) (ask .scene) reached h samples))
 
 -- ---- a run is a part of the show
 

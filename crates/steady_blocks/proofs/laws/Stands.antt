@@ -11,10 +11,12 @@ use native.Mathlib.Omega.{arith}
 use lib.Dec.{eqb, ltb}
 use lib.Seq.{getD-set-same, getD-set-other, ext-getD, set-set}
 use borrow.Author.Tests.{eqb-false}
+use Rattle.limits.specs.Limits.{trackPlaces, sendLines, routeLines, soundLines}
 use Rattle.scene.specs.declared.scene.Scene.{Scene}
 use Rattle.mixer.specs.declared.mixer.Mixer.{Mixer}
 use Rattle.mixer_chunk.specs.ChunkOf.{chunkOf, chunkTrack, chunkSound, emptyLevel, chunkTracks, chunkSends, chunkRoutes, chunkSounds, emptyTrackRow, emptySoundRow, emptyRouteRow}
-use Rattle.chunk.specs.Flat.{chunkFrom, column, trackFrom, routeFrom, soundFrom, levelFrom, placesOf, valuesOf}
+use Rattle.chunk.specs.Flat.{advancingFrom, routeTracksFrom, routeSendsFrom, soundTracksFrom, soundStartsFrom, soundLeftsFrom, framesPlace, trackCountPlace, sendCountPlace, routeCountPlace, soundCountPlace, placesSize, levelSize, trackLevels}
+use Rattle.chunk.specs.Flat.{chunkFrom, column, trackFrom, routeFrom, soundFrom, levelFrom, placesOf, levelsOf, amplitudesOf}
 use Rattle.steady_blocks.specs.Advance.{framed, moves, framesOf, advanced, TracksThere}
 use Rattle.laws.specs.Loop.{changed}
 use Rattle.laws.proofs.laws.Loop.{changed-length, changed-below, changed-from}
@@ -35,9 +37,9 @@ use Rattle.steady_mixer.proofs.laws.Steady.{withClocks, withPlayed}
 use Rattle.steady_blocks.proofs.laws.Advance.{Moved, apart-before, apart-behind, apart-start, apart-left, all-moved}
 use Rattle.steady_mixer.specs.Steady.{afterRun}
 
-pub record Stands (s : Scene) (m : Mixer) (places : List ℕ) (values : List Float) : Type 0 where
-  pub long : length places ≡ 389
-  pub same : (n : ℕ) → chunkFrom (framed n places) values ≡ chunkOf s n m
+pub record Stands (s : Scene) (m : Mixer) (places : List ℕ) (levels amplitudes : List Float) : Type 0 where
+  pub long : length places ≡ placesSize
+  pub same : (n : ℕ) → chunkFrom (framed n places) levels amplitudes ≡ chunkOf s n m
 
 -- ---- tables that differ only in their sounds
 
@@ -45,45 +47,45 @@ column-cong : {A : Type 0} (f g : ℕ → A) (n : ℕ) → ((k : ℕ) → k < n 
 unfolding column
 column-cong f g n h = pieces-cong (λ j. f j ∷ []) (λ j. g j ∷ []) n (λ i b. ap (λ x. x ∷ []) (h i b))
 
-module _ (p q : List ℕ) (values : List Float) (before : (i : ℕ) → i < 256 → getD p i 0 ≡ getD q i 0) where
-  same-tracks : column (trackFrom p values) 32 ≡ column (trackFrom q values) 32
+module _ (p q : List ℕ) (levels amplitudes : List Float) (before : (i : ℕ) → i < soundStartsFrom → getD p i 0 ≡ getD q i 0) where
+  same-tracks : column (trackFrom p levels) trackPlaces ≡ column (trackFrom q levels) trackPlaces
   unfolding trackFrom
   same-tracks =
-      column-cong (trackFrom p values) (trackFrom q values) 32
-      (λ j b. ap₂ (λ (parent advancing : ℕ). record { parent = parent; advancing = eqb advancing 1; volume = levelFrom values (4 * j); fade = levelFrom values (4 * j + 2) }) (before j (omega arith)) (before (32 + j) (omega arith)))
+      column-cong (trackFrom p levels) (trackFrom q levels) trackPlaces
+      (λ j b. ap₂ (λ (parent advancing : ℕ). record { parent = parent; advancing = eqb advancing 1; volume = levelFrom levels (trackLevels * j); fade = levelFrom levels (trackLevels * j + levelSize) }) (before j (omega arith)) (before (advancingFrom + j) (omega arith)))
 
-  same-routes : column (routeFrom p values) 64 ≡ column (routeFrom q values) 64
+  same-routes : column (routeFrom p amplitudes) routeLines ≡ column (routeFrom q amplitudes) routeLines
   unfolding routeFrom
   same-routes =
-      column-cong (routeFrom p values) (routeFrom q values) 64
-      (λ r b. ap₂ (λ (track send : ℕ). record { track = track; send = send; amplitude = routeFrom p values r .amplitude }) (before (64 + r) (omega arith)) (before (128 + r) (omega arith)))
+      column-cong (routeFrom p amplitudes) (routeFrom q amplitudes) routeLines
+      (λ r b. ap₂ (λ (track send : ℕ). record { track = track; send = send; amplitude = routeFrom p amplitudes r .amplitude }) (before (routeTracksFrom + r) (omega arith)) (before (routeSendsFrom + r) (omega arith)))
 
-  same-but-sounds : ((i : ℕ) → 384 ≤ i → getD p i 0 ≡ getD q i 0) → chunkFrom p values ≡ withPlayed (column (soundFrom p) 64) (chunkFrom q values)
+  same-but-sounds : ((i : ℕ) → framesPlace ≤ i → getD p i 0 ≡ getD q i 0) → chunkFrom p levels amplitudes ≡ withPlayed (column (soundFrom p) soundLines) (chunkFrom q levels amplitudes)
   unfolding withPlayed
-  same-but-sounds behind = cc (same-tracks, same-routes, behind 384 (omega arith), behind 385 (omega arith), behind 386 (omega arith), behind 387 (omega arith), behind 388 (omega arith))
+  same-but-sounds behind = cc (same-tracks, same-routes, behind framesPlace (omega arith), behind trackCountPlace (omega arith), behind sendCountPlace (omega arith), behind routeCountPlace (omega arith), behind soundCountPlace (omega arith))
 
 -- ---- the number of frames stands in a place of its own
 
 module _ (n : ℕ) (places : List ℕ) where
-  pub framed-other : (i : ℕ) → (i ≡ 384 → ⊥) → getD (framed n places) i 0 ≡ getD places i 0
+  pub framed-other : (i : ℕ) → (i ≡ framesPlace → ⊥) → getD (framed n places) i 0 ≡ getD places i 0
   unfolding framed
-  framed-other i h = getD-set-other places 384 i n 0 h
+  framed-other i h = getD-set-other places framesPlace i n 0 h
 
   pub framed-long : length (framed n places) ≡ length places
   unfolding framed
-  framed-long = length-set places 384 n
+  framed-long = length-set places framesPlace n
 
-  pub framed-here : length places ≡ 389 → getD (framed n places) 384 0 ≡ n
+  pub framed-here : length places ≡ placesSize → getD (framed n places) framesPlace 0 ≡ n
   unfolding framed
-  framed-here e = getD-set-same places 384 n 0 (omega arith)
+  framed-here e = getD-set-same places framesPlace n 0 (omega arith)
 
   pub framed-twice : (m : ℕ) → framed m (framed n places) ≡ framed m places
   unfolding framed
-  framed-twice m = set-set places 384 n m
+  framed-twice m = set-set places framesPlace n m
 
-  framed-sound : (k : ℕ) → k < 64 → soundFrom (framed n places) k ≡ soundFrom places k
+  framed-sound : (k : ℕ) → k < soundLines → soundFrom (framed n places) k ≡ soundFrom places k
   unfolding soundFrom
-  framed-sound k h = cc (framed-other (192 + k) (λ e. omega arith), framed-other (256 + k) (λ e. omega arith), framed-other (320 + k) (λ e. omega arith))
+  framed-sound k h = cc (framed-other (soundTracksFrom + k) (λ e. omega arith), framed-other (soundStartsFrom + k) (λ e. omega arith), framed-other (soundLeftsFrom + k) (λ e. omega arith))
 
 -- ---- so many frames more of a sound: `by` as the tables have it
 
@@ -111,58 +113,58 @@ module _ (line : SoundLine) (n done : ℕ) (h : done ≤ line .count) where
 
 -- ---- what the tables say of a mixer that they stand for
 
-module _ (s : Scene) (m : Mixer) (places : List ℕ) (values : List Float) (ok : SceneOk s) (stands : Stands s m places values) where
-  pub stands-count : getD places 388 0 ≡ s .«sound_count»
+module _ (s : Scene) (m : Mixer) (places : List ℕ) (levels amplitudes : List Float) (ok : SceneOk s) (stands : Stands s m places levels amplitudes) where
+  pub stands-count : getD places soundCountPlace 0 ≡ s .«sound_count»
   unfolding chunkOf
-  stands-count = sym (framed-other 0 places 388 (λ e. omega arith)) ∙ ap (λ (c : Chunk). c .«sound_count») (stands .same 0)
+  stands-count = sym (framed-other 0 places soundCountPlace (λ e. omega arith)) ∙ ap (λ (c : Chunk). c .«sound_count») (stands .same 0)
 
-  stands-few : getD places 388 0 ≤ 64
+  stands-few : getD places soundCountPlace 0 ≤ soundLines
   stands-few = le-trans (le-of-eq stands-count) (ok .soundCount)
 
-  stands-sound : (k : ℕ) → k < 64 → soundFrom places k ≡ getD (chunkSounds (s .sounds) (s .«sound_count») (m .played)) k absentSoundRow
+  stands-sound : (k : ℕ) → k < soundLines → soundFrom places k ≡ getD (chunkSounds (s .sounds) (s .«sound_count») (m .played)) k absentSoundRow
   unfolding chunkOf
-  stands-sound k h = sym (framed-sound 0 places k h) ∙ sym (sound-from (framed 0 places) values k h) ∙ ap (λ (c : Chunk). getD (c .sounds) k absentSoundRow) (stands .same 0)
+  stands-sound k h = sym (framed-sound 0 places k h) ∙ sym (sound-from (framed 0 places) levels amplitudes k h) ∙ ap (λ (c : Chunk). getD (c .sounds) k absentSoundRow) (stands .same 0)
 
   -- a line of the sounds
   sound-line : (k : ℕ) → k < s .«sound_count» → soundFrom places k ≡ chunkSound (soundLine s k) (getD (m .played) k 0)
   unfolding chunkSounds
-  sound-line k b = stands-sound k (le-trans b (ok .soundCount)) ∙ changed-below (λ k x. chunkSound (soundLine s k) (getD (m .played) k 0)) (s .«sound_count») (replicate 64 emptySoundRow) k absentSoundRow b (le-trans b (le-trans (ok .soundCount) (le-of-eq (sym (length-replicate 64 emptySoundRow)))))
+  sound-line k b = stands-sound k (le-trans b (ok .soundCount)) ∙ changed-below (λ k x. chunkSound (soundLine s k) (getD (m .played) k 0)) (s .«sound_count») (replicate soundLines emptySoundRow) k absentSoundRow b (le-trans b (le-trans (ok .soundCount) (le-of-eq (sym (length-replicate soundLines emptySoundRow)))))
 
-  stands-track : (k : ℕ) → k < s .«sound_count» → getD places (192 + k) 0 ≡ soundLine s k .track
+  stands-track : (k : ℕ) → k < s .«sound_count» → getD places (soundTracksFrom + k) 0 ≡ soundLine s k .track
   unfolding soundFrom chunkSound
   stands-track k b = ap (λ (x : ChunkSound). x .track) (sound-line k b)
 
-  stands-start : (k : ℕ) → k < s .«sound_count» → getD places (256 + k) 0 ≡ soundLine s k .first + getD (m .played) k 0
+  stands-start : (k : ℕ) → k < s .«sound_count» → getD places (soundStartsFrom + k) 0 ≡ soundLine s k .first + getD (m .played) k 0
   unfolding soundFrom chunkSound
   stands-start k b = ap (λ (x : ChunkSound). x .start) (sound-line k b)
 
-  pub stands-left : (k : ℕ) → k < s .«sound_count» → getD places (320 + k) 0 ≡ soundLine s k .count - getD (m .played) k 0
+  pub stands-left : (k : ℕ) → k < s .«sound_count» → getD places (soundLeftsFrom + k) 0 ≡ soundLine s k .count - getD (m .played) k 0
   unfolding soundFrom chunkSound
   stands-left k b = ap (λ (x : ChunkSound). x .left) (sound-line k b)
 
-  pub stands-there : TracksThere places (getD places 388 0)
+  pub stands-there : TracksThere places (getD places soundCountPlace 0)
   stands-there k b = let l : k < s .«sound_count» = omega (arith, stands-count) in le-trans (le-of-eq (stands-track k l)) (le-trans (ok .sounds k l) (ok .trackCount))
 
   -- a track's flag
-  stands-flag : (t : ℕ) → t < s .«track_count» → eqb (getD places (32 + t) 0) 1 ≡ stateOf (m .tracks) t .live
+  stands-flag : (t : ℕ) → t < s .«track_count» → eqb (getD places (advancingFrom + t) 0) 1 ≡ stateOf (m .tracks) t .live
   unfolding chunkOf chunkTracks trackFrom chunkTrack
   stands-flag t b =
-      let few : t < 32 = le-trans b (ok .trackCount) in
-      ap (λ (x : ℕ). eqb x 1) (sym (framed-other 0 places (32 + t) (λ e. omega arith)))
+      let few : t < trackPlaces = le-trans b (ok .trackCount) in
+      ap (λ (x : ℕ). eqb x 1) (sym (framed-other 0 places (advancingFrom + t) (λ e. omega arith)))
       ∙ ap (λ (x : ChunkTrack). x .advancing)
-      (sym (track-from (framed 0 places) values t few)
+      (sym (track-from (framed 0 places) levels amplitudes t few)
       ∙ ap (λ (c : Chunk). getD (c .tracks) t absentTrackRow) (stands .same 0)
-      ∙ changed-below (λ t x. chunkTrack (getD (s .tracks) t absentTrackLine) (stateOf (m .tracks) t)) (s .«track_count») (replicate 32 emptyTrackRow) t absentTrackRow b (le-trans few (le-of-eq (sym (length-replicate 32 emptyTrackRow)))))
+      ∙ changed-below (λ t x. chunkTrack (getD (s .tracks) t absentTrackLine) (stateOf (m .tracks) t)) (s .«track_count») (replicate trackPlaces emptyTrackRow) t absentTrackRow b (le-trans few (le-of-eq (sym (length-replicate trackPlaces emptyTrackRow)))))
 
   -- a sound moves where its track is live
   stands-moves : (k : ℕ) → k < s .«sound_count» → moves places k ≡ liveAbove (m .tracks) (soundLine s k .track)
   unfolding moves liveAbove
-  stands-moves k b = ap (λ (t : ℕ). cond (eqb t 0) true (eqb (getD places (32 + (t - 1)) 0) 1)) (stands-track k b) ∙ above (soundLine s k .track) (ok .sounds k b)
+  stands-moves k b = ap (λ (t : ℕ). cond (eqb t 0) true (eqb (getD places (advancingFrom + (t - 1)) 0) 1)) (stands-track k b) ∙ above (soundLine s k .track) (ok .sounds k b)
     where
-      above : (t : ℕ) → t ≤ s .«track_count» → cond (eqb t 0) true (eqb (getD places (32 + (t - 1)) 0) 1) ≡ liveAbove (m .tracks) t
+      above : (t : ℕ) → t ≤ s .«track_count» → cond (eqb t 0) true (eqb (getD places (advancingFrom + (t - 1)) 0) 1) ≡ liveAbove (m .tracks) t
       above t h = go (eqb t 0) refl
         where
-          go : (b : Bool) → eqb t 0 ≡ b → cond b true (eqb (getD places (32 + (t - 1)) 0) 1) ≡ cond b true (stateOf (m .tracks) (t - 1) .live)
+          go : (b : Bool) → eqb t 0 ≡ b → cond b true (eqb (getD places (advancingFrom + (t - 1)) 0) 1) ≡ cond b true (stateOf (m .tracks) (t - 1) .live)
           go true e = refl
           go false e = let some : t ≡ 0 → ⊥ = eqb-false t 0 e in stands-flag (t - 1) (omega arith)
 
@@ -171,8 +173,8 @@ module _ (s : Scene) (m : Mixer) (places : List ℕ) (values : List Float) (ok :
   unfolding framesOf
   stands-frames n k b = ap₂ (λ (live : Bool) (left : ℕ). framesMore live left n) (stands-moves k b) (stands-left k b)
 
-  module _ (n : ℕ) (room : length (m .played) ≡ 64) (most : (k : ℕ) → k < s .«sound_count» → getD (m .played) k 0 ≤ soundLine s k .count) where
-    now-moved : Moved n places (getD places 388 0) (advanced n places)
+  module _ (n : ℕ) (room : length (m .played) ≡ soundLines) (most : (k : ℕ) → k < s .«sound_count» → getD (m .played) k 0 ≤ soundLine s k .count) where
+    now-moved : Moved n places (getD places soundCountPlace 0) (advanced n places)
     now-moved = all-moved n places stands-few stands-there (stands .long)
 
     played-now : (k : ℕ) → k < s .«sound_count» → getD (playedOn (s .sounds) (s .«sound_count») (m .tracks) n (m .played)) k 0 ≡ cond (liveAbove (m .tracks) (soundLine s k .track)) (playedMore (soundLine s k) n (getD (m .played) k 0)) (getD (m .played) k 0)
@@ -186,30 +188,30 @@ module _ (s : Scene) (m : Mixer) (places : List ℕ) (values : List Float) (ok :
         let live = liveAbove (m .tracks) (soundLine s k .track) in
         let line = soundLine s k in
         let done = getD (m .played) k 0 in
-        let inside : k < getD places 388 0 = omega (arith, stands-count) in
-        let track : getD (advanced n places) (192 + k) 0 ≡ line .track = now-moved .others (192 + k) (apart-before _ (192 + k) (omega (arith, ok .soundCount))) ∙ stands-track k b in
-        let start : getD (advanced n places) (256 + k) 0 ≡ line .first + cond live (playedMore line n done) done = now-moved .start k inside ∙ ap₂ _+_ (stands-start k b) (stands-frames n k b) ∙ start-more line n done (most k b) live in
-        let left : getD (advanced n places) (320 + k) 0 ≡ line .count - cond live (playedMore line n done) done = now-moved .left k inside ∙ ap₂ _-_ (stands-left k b) (stands-frames n k b) ∙ left-more line n done (most k b) live in
+        let inside : k < getD places soundCountPlace 0 = omega (arith, stands-count) in
+        let track : getD (advanced n places) (soundTracksFrom + k) 0 ≡ line .track = now-moved .others (soundTracksFrom + k) (apart-before _ (soundTracksFrom + k) (omega (arith, ok .soundCount))) ∙ stands-track k b in
+        let start : getD (advanced n places) (soundStartsFrom + k) 0 ≡ line .first + cond live (playedMore line n done) done = now-moved .start k inside ∙ ap₂ _+_ (stands-start k b) (stands-frames n k b) ∙ start-more line n done (most k b) live in
+        let left : getD (advanced n places) (soundLeftsFrom + k) 0 ≡ line .count - cond live (playedMore line n done) done = now-moved .left k inside ∙ ap₂ _-_ (stands-left k b) (stands-frames n k b) ∙ left-more line n done (most k b) live in
         cc (played-now k b)
 
     -- and a place with no line
-    sound-kept : (k : ℕ) → k < 64 → s .«sound_count» ≤ k → soundFrom (advanced n places) k ≡ soundFrom places k
+    sound-kept : (k : ℕ) → k < soundLines → s .«sound_count» ≤ k → soundFrom (advanced n places) k ≡ soundFrom places k
     unfolding soundFrom
     sound-kept k few l =
-        let past : getD places 388 0 ≤ k = omega (arith, stands-count) in
-        cc (now-moved .others (192 + k) (apart-before _ (192 + k) (omega arith)), now-moved .others (256 + k) (apart-start _ k past few), now-moved .others (320 + k) (apart-left _ k past few))
+        let past : getD places soundCountPlace 0 ≤ k = omega (arith, stands-count) in
+        cc (now-moved .others (soundTracksFrom + k) (apart-before _ (soundTracksFrom + k) (omega arith)), now-moved .others (soundStartsFrom + k) (apart-start _ k past few), now-moved .others (soundLeftsFrom + k) (apart-left _ k past few))
 
-    places-few : (k : ℕ) → k < 64 → k < length (replicate 64 emptySoundRow)
-    places-few k b = le-trans b (le-of-eq (sym (length-replicate 64 emptySoundRow)))
+    places-few : (k : ℕ) → k < soundLines → k < length (replicate soundLines emptySoundRow)
+    places-few k b = le-trans b (le-of-eq (sym (length-replicate soundLines emptySoundRow)))
 
-    sounds-now : column (soundFrom (advanced n places)) 64 ≡ chunkSounds (s .sounds) (s .«sound_count») (playedOn (s .sounds) (s .«sound_count») (m .tracks) n (m .played))
+    sounds-now : column (soundFrom (advanced n places)) soundLines ≡ chunkSounds (s .sounds) (s .«sound_count») (playedOn (s .sounds) (s .«sound_count») (m .tracks) n (m .played))
     unfolding chunkSounds
     sounds-now =
-        ext-getD absentSoundRow (column (soundFrom (advanced n places)) 64) (changed f (s .«sound_count») (replicate 64 emptySoundRow))
-        (length-column (soundFrom (advanced n places)) 64 ∙ sym (changed-length f (s .«sound_count») (replicate 64 emptySoundRow) ∙ length-replicate 64 emptySoundRow))
+        ext-getD absentSoundRow (column (soundFrom (advanced n places)) soundLines) (changed f (s .«sound_count») (replicate soundLines emptySoundRow))
+        (length-column (soundFrom (advanced n places)) soundLines ∙ sym (changed-length f (s .«sound_count») (replicate soundLines emptySoundRow) ∙ length-replicate soundLines emptySoundRow))
         (λ k b.
-        let few : k < 64 = subst (λ (z : ℕ). k < z) (length-column (soundFrom (advanced n places)) 64) b in
-        column-at (soundFrom (advanced n places)) 64 k absentSoundRow few ∙ ⊎-elim (λ (l : k < s .«sound_count»). line k few l) (λ (l : s .«sound_count» ≤ k). rest k few l) (below-or-not k (s .«sound_count»)))
+        let few : k < soundLines = subst (λ (z : ℕ). k < z) (length-column (soundFrom (advanced n places)) soundLines) b in
+        column-at (soundFrom (advanced n places)) soundLines k absentSoundRow few ∙ ⊎-elim (λ (l : k < s .«sound_count»). line k few l) (λ (l : s .«sound_count» ≤ k). rest k few l) (below-or-not k (s .«sound_count»)))
       where
         f : ℕ → ChunkSound → ChunkSound
         f k x = chunkSound (soundLine s k) (getD (playedOn (s .sounds) (s .«sound_count») (m .tracks) n (m .played)) k 0)
@@ -217,45 +219,45 @@ module _ (s : Scene) (m : Mixer) (places : List ℕ) (values : List Float) (ok :
         g : ℕ → ChunkSound → ChunkSound
         g k x = chunkSound (soundLine s k) (getD (m .played) k 0)
 
-        line : (k : ℕ) → k < 64 → k < s .«sound_count» → soundFrom (advanced n places) k ≡ getD (changed f (s .«sound_count») (replicate 64 emptySoundRow)) k absentSoundRow
-        line k few l = sound-now k l ∙ sym (changed-below f (s .«sound_count») (replicate 64 emptySoundRow) k absentSoundRow l (places-few k few))
+        line : (k : ℕ) → k < soundLines → k < s .«sound_count» → soundFrom (advanced n places) k ≡ getD (changed f (s .«sound_count») (replicate soundLines emptySoundRow)) k absentSoundRow
+        line k few l = sound-now k l ∙ sym (changed-below f (s .«sound_count») (replicate soundLines emptySoundRow) k absentSoundRow l (places-few k few))
 
-        rest : (k : ℕ) → k < 64 → s .«sound_count» ≤ k → soundFrom (advanced n places) k ≡ getD (changed f (s .«sound_count») (replicate 64 emptySoundRow)) k absentSoundRow
+        rest : (k : ℕ) → k < soundLines → s .«sound_count» ≤ k → soundFrom (advanced n places) k ≡ getD (changed f (s .«sound_count») (replicate soundLines emptySoundRow)) k absentSoundRow
         rest k few l =
             sound-kept k few l
             ∙ stands-sound k few
-            ∙ changed-from g (s .«sound_count») (replicate 64 emptySoundRow) k absentSoundRow l
-            ∙ sym (changed-from f (s .«sound_count») (replicate 64 emptySoundRow) k absentSoundRow l)
+            ∙ changed-from g (s .«sound_count») (replicate soundLines emptySoundRow) k absentSoundRow l
+            ∙ sym (changed-from f (s .«sound_count») (replicate soundLines emptySoundRow) k absentSoundRow l)
 
     -- the tables, once the sounds have moved on, stand for the mixer whose sounds have
-    pub stands-on : Stands s (soundsPlayed s n m) (advanced n places) values
+    pub stands-on : Stands s (soundsPlayed s n m) (advanced n places) levels amplitudes
     unfolding chunkOf soundsPlayed withPlayed
     stands-on =
         record {
           long = now-moved .kept ∙ stands .long;
           same = λ i.
-              same-but-sounds (framed i (advanced n places)) (framed i places) values (before i) (behind i)
-              ∙ ap₂ withPlayed (column-cong (soundFrom (framed i (advanced n places))) (soundFrom (advanced n places)) 64 (framed-sound i (advanced n places)) ∙ sounds-now) (stands .same i);
+              same-but-sounds (framed i (advanced n places)) (framed i places) levels amplitudes (before i) (behind i)
+              ∙ ap₂ withPlayed (column-cong (soundFrom (framed i (advanced n places))) (soundFrom (advanced n places)) soundLines (framed-sound i (advanced n places)) ∙ sounds-now) (stands .same i);
         }
       where
-        before : (i j : ℕ) → j < 256 → getD (framed i (advanced n places)) j 0 ≡ getD (framed i places) j 0
+        before : (i j : ℕ) → j < soundStartsFrom → getD (framed i (advanced n places)) j 0 ≡ getD (framed i places) j 0
         before i j h = framed-other i (advanced n places) j (λ e. omega arith) ∙ now-moved .others j (apart-before _ j h) ∙ sym (framed-other i places j (λ e. omega arith))
 
-        behind : (i j : ℕ) → 384 ≤ j → getD (framed i (advanced n places)) j 0 ≡ getD (framed i places) j 0
+        behind : (i j : ℕ) → framesPlace ≤ j → getD (framed i (advanced n places)) j 0 ≡ getD (framed i places) j 0
         behind i j h =
             ⊎-elim
-            (λ (e : 384 ≡ j). subst (λ (z : ℕ). getD (framed i (advanced n places)) z 0 ≡ getD (framed i places) z 0) e (framed-here i (advanced n places) (now-moved .kept ∙ stands .long) ∙ sym (framed-here i places (stands .long))))
-            (λ (l : 384 < j). framed-other i (advanced n places) j (λ e. omega arith) ∙ now-moved .others j (apart-behind _ j stands-few h) ∙ sym (framed-other i places j (λ e. omega arith)))
+            (λ (e : framesPlace ≡ j). subst (λ (z : ℕ). getD (framed i (advanced n places)) z 0 ≡ getD (framed i places) z 0) e (framed-here i (advanced n places) (now-moved .kept ∙ stands .long) ∙ sym (framed-here i places (stands .long))))
+            (λ (l : framesPlace < j). framed-other i (advanced n places) j (λ e. omega arith) ∙ now-moved .others j (apart-behind _ j stands-few h) ∙ sym (framed-other i places j (λ e. omega arith)))
             (eq-or-lt-of-le h)
 
 -- how many frames the chunk has does not matter to it
-pub stands-framed : (s : Scene) (m : Mixer) (places : List ℕ) (values : List Float) (n : ℕ) → Stands s m places values → Stands s m (framed n places) values
-stands-framed s m places values n h = record { long = framed-long n places ∙ h .long; same = λ i. ap (λ (l : List ℕ). chunkFrom l values) (framed-twice n places i) ∙ h .same i }
+pub stands-framed : (s : Scene) (m : Mixer) (places : List ℕ) (levels amplitudes : List Float) (n : ℕ) → Stands s m places levels amplitudes → Stands s m (framed n places) levels amplitudes
+stands-framed s m places levels amplitudes n h = record { long = framed-long n places ∙ h .long; same = λ i. ap (λ (l : List ℕ). chunkFrom l levels amplitudes) (framed-twice n places i) ∙ h .same i }
 
 -- and clocks do not either
-pub stands-clocks : (s : Scene) (m : Mixer) (places : List ℕ) (values : List Float) (clocks : Clocks) → Stands s m places values → Stands s (withClocks clocks m) places values
+pub stands-clocks : (s : Scene) (m : Mixer) (places : List ℕ) (levels amplitudes : List Float) (clocks : Clocks) → Stands s m places levels amplitudes → Stands s (withClocks clocks m) places levels amplitudes
 unfolding withClocks afterRun chunkOf
-stands-clocks s m places values clocks h = record { long = h .long; same = h .same }
+stands-clocks s m places levels amplitudes clocks h = record { long = h .long; same = h .same }
 
 -- ---- the tables of a mixer's chunk
 
@@ -274,28 +276,28 @@ chunkWith n c =
       main = c .main;
     }
 
-framed-chunk : (n : ℕ) (places : List ℕ) (values : List Float) → length places ≡ 389 → chunkFrom (framed n places) values ≡ chunkWith n (chunkFrom places values)
-framed-chunk n places values long =
-    let other : (i : ℕ) → (i ≡ 384 → ⊥) → getD (framed n places) i 0 ≡ getD places i 0 = framed-other n places in
-    let tracks : column (trackFrom (framed n places) values) 32 ≡ column (trackFrom places values) 32 = same-tracks (framed n places) places values (λ i h. other i (λ e. omega arith)) in
-    let routes : column (routeFrom (framed n places) values) 64 ≡ column (routeFrom places values) 64 = same-routes (framed n places) places values (λ i h. other i (λ e. omega arith)) in
-    let sounds : column (soundFrom (framed n places)) 64 ≡ column (soundFrom places) 64 = column-cong (soundFrom (framed n places)) (soundFrom places) 64 (framed-sound n places) in
-    cc (framed-here n places long, other 385 (λ e. omega arith), other 386 (λ e. omega arith), other 387 (λ e. omega arith), other 388 (λ e. omega arith))
+framed-chunk : (n : ℕ) (places : List ℕ) (levels amplitudes : List Float) → length places ≡ placesSize → chunkFrom (framed n places) levels amplitudes ≡ chunkWith n (chunkFrom places levels amplitudes)
+framed-chunk n places levels amplitudes long =
+    let other : (i : ℕ) → (i ≡ framesPlace → ⊥) → getD (framed n places) i 0 ≡ getD places i 0 = framed-other n places in
+    let tracks : column (trackFrom (framed n places) levels) trackPlaces ≡ column (trackFrom places levels) trackPlaces = same-tracks (framed n places) places levels amplitudes (λ i h. other i (λ e. omega arith)) in
+    let routes : column (routeFrom (framed n places) amplitudes) routeLines ≡ column (routeFrom places amplitudes) routeLines = same-routes (framed n places) places levels amplitudes (λ i h. other i (λ e. omega arith)) in
+    let sounds : column (soundFrom (framed n places)) soundLines ≡ column (soundFrom places) soundLines = column-cong (soundFrom (framed n places)) (soundFrom places) soundLines (framed-sound n places) in
+    cc (framed-here n places long, other trackCountPlace (λ e. omega arith), other sendCountPlace (λ e. omega arith), other routeCountPlace (λ e. omega arith), other soundCountPlace (λ e. omega arith))
 
 chunk-places : (s : Scene) (n : ℕ) (m : Mixer) → ChunkPlaces (chunkOf s n m)
 unfolding chunkOf chunkTracks chunkSends chunkRoutes chunkSounds
 chunk-places s n m =
     record {
-      tracks = changed-length _ (s .«track_count») (replicate 32 emptyTrackRow) ∙ length-replicate 32 emptyTrackRow;
-      sends = changed-length _ (s .«send_count») (replicate 8 emptyLevel) ∙ length-replicate 8 emptyLevel;
-      routes = changed-length _ (s .«route_count») (replicate 64 emptyRouteRow) ∙ length-replicate 64 emptyRouteRow;
-      sounds = changed-length _ (s .«sound_count») (replicate 64 emptySoundRow) ∙ length-replicate 64 emptySoundRow;
+      tracks = changed-length _ (s .«track_count») (replicate trackPlaces emptyTrackRow) ∙ length-replicate trackPlaces emptyTrackRow;
+      sends = changed-length _ (s .«send_count») (replicate sendLines emptyLevel) ∙ length-replicate sendLines emptyLevel;
+      routes = changed-length _ (s .«route_count») (replicate routeLines emptyRouteRow) ∙ length-replicate routeLines emptyRouteRow;
+      sounds = changed-length _ (s .«sound_count») (replicate soundLines emptySoundRow) ∙ length-replicate soundLines emptySoundRow;
     }
 
-pub stands-flat : (s : Scene) (n : ℕ) (m : Mixer) → Stands s m (placesOf (chunkOf s n m)) (valuesOf (chunkOf s n m))
+pub stands-flat : (s : Scene) (n : ℕ) (m : Mixer) → Stands s m (placesOf (chunkOf s n m)) (levelsOf (chunkOf s n m)) (amplitudesOf (chunkOf s n m))
 unfolding chunkOf
 stands-flat s n m =
     record {
       long = places-length (chunkOf s n m);
-      same = λ i. framed-chunk i (placesOf (chunkOf s n m)) (valuesOf (chunkOf s n m)) (places-length (chunkOf s n m)) ∙ ap (chunkWith i) (chunk-flat (chunkOf s n m) (chunk-places s n m));
+      same = λ i. framed-chunk i (placesOf (chunkOf s n m)) (levelsOf (chunkOf s n m)) (amplitudesOf (chunkOf s n m)) (places-length (chunkOf s n m)) ∙ ap (chunkWith i) (chunk-flat (chunkOf s n m) (chunk-places s n m));
     }

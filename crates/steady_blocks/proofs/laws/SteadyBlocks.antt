@@ -11,6 +11,7 @@ use lib.ListN.{length, getD}
 use lib.Seq.{ext-getD}
 use lib.Ieee.{Float}
 use borrow.Author.Tests.{ltb-true, ltb-false, lt-ltb, le-ltb, ne-eqb}
+use Rattle.limits.specs.Limits.{soundLines}
 use Rattle.laws.proofs.laws.Choice.{cond-true, cond-false}
 use Rattle.laws.specs.Loop.{upto}
 use Rattle.laws.proofs.laws.Loop.{upto-suc, upto-next, upto-zero, upto-holds, changed-length, changed-below, changed-from}
@@ -27,7 +28,8 @@ use Rattle.mixer_chunk.specs.ChunkOf.{chunkOf}
 use Rattle.mixer.specs.MixerOk.{MixerOk}
 use Rattle.renderer.specs.Renderer.{chunkCount, chunksDone, blockDone, mixerAt}
 use Rattle.renderer.proofs.laws.Renderer.{chunks-ok}
-use Rattle.chunk.specs.Flat.{placesOf, valuesOf}
+use Rattle.chunk.specs.Flat.{soundLeftsFrom}
+use Rattle.chunk.specs.Flat.{placesOf, levelsOf, amplitudesOf}
 use Rattle.steady_blocks.proofs.laws.Stands.{Stands, stands-left, stands-flat}
 use Rattle.steady_blocks.specs.SteadyBlock.{stillPlaces, blocksRun, nearerBlock, nextOrders, playedBy}
 use Rattle.steady_blocks.proofs.laws.SteadyBlock.{StandsStill, still-chunks}
@@ -146,27 +148,31 @@ module _ (s : Scene) (m : Mixer) (ok : SceneOk s) where
       more i q = omega arith
 
   -- the tables of a mixer that stands still
-  pub stands-first : (n : ℕ) {chunk : Chunk} {places : List ℕ} {values : List Float} → chunk ≡ chunkOf s n m → places ≡ placesOf chunk → values ≡ valuesOf chunk → mixerSteady s m ≡ true → StandsStill s m places values (blocksRun s 0 m)
+  pub stands-first : (n : ℕ) {chunk : Chunk} {places : List ℕ} {levels amplitudes : List Float} → chunk ≡ chunkOf s n m → places ≡ placesOf chunk → levels ≡ levelsOf chunk → amplitudes ≡ amplitudesOf chunk → mixerSteady s m ≡ true → StandsStill s m places levels amplitudes (blocksRun s 0 m)
   unfolding afterRun
-  stands-first n {chunk} {places} {values} is p q e = subst (StandsStill s m places values) (sym run-zero) (record { still = e; stands = stands; rest = refl; idle = λ k b. refl })
+  stands-first n {chunk} {places} {levels} {amplitudes} is p q r e = subst (StandsStill s m places levels amplitudes) (sym run-zero) (record { still = e; stands = stands; rest = refl; idle = λ k b. refl })
     where
-      stands : Stands s m places values
-      stands = subst (λ (l : List ℕ). Stands s m l values) (sym (p ∙ ap placesOf is)) (subst (Stands s m (placesOf (chunkOf s n m))) (sym (q ∙ ap valuesOf is)) (stands-flat s n m))
+      stands : Stands s m places levels amplitudes
+      stands =
+          let flat = stands-flat s n m in
+          subst (λ (l : List ℕ). Stands s m l levels amplitudes) (sym (p ∙ ap placesOf is))
+          (subst (λ (l : List Float). Stands s m (placesOf (chunkOf s n m)) l amplitudes) (sym (q ∙ ap levelsOf is))
+          (subst (Stands s m (placesOf (chunkOf s n m)) (levelsOf (chunkOf s n m))) (sym (r ∙ ap amplitudesOf is)) flat))
 
-  pub stands-next : (c j : ℕ) (places : List ℕ) (values : List Float) → MixerOk s c m → StandsStill s m places values (blocksRun s j m) → StandsStill s m (stillPlaces (s .head) (chunkCount (s .head)) places) values (blocksRun s (j + 1) m)
-  stands-next c j places values h k =
-      subst (StandsStill s m (stillPlaces (s .head) (chunkCount (s .head)) places) values) (sym (run-plus s m j))
-      (still-chunks s m places values (blocksRun s j m) (c + j * chunkCount (s .head)) ok (run-ok c j h) k (chunkCount (s .head)))
+  pub stands-next : (c j : ℕ) (places : List ℕ) (levels amplitudes : List Float) → MixerOk s c m → StandsStill s m places levels amplitudes (blocksRun s j m) → StandsStill s m (stillPlaces (s .head) (chunkCount (s .head)) places) levels amplitudes (blocksRun s (j + 1) m)
+  stands-next c j places levels amplitudes h k =
+      subst (StandsStill s m (stillPlaces (s .head) (chunkCount (s .head)) places) levels amplitudes) (sym (run-plus s m j))
+      (still-chunks s m places levels amplitudes (blocksRun s j m) (c + j * chunkCount (s .head)) ok (run-ok c j h) k (chunkCount (s .head)))
 
   -- how far the sounds have played
-  pub played-by : (c : ℕ) (places : List ℕ) (values : List Float) (now : Mixer) → length (m .played) ≡ 64 → MixerOk s c now → StandsStill s m places values now → playedBy s places (m .played) ≡ now .played
+  pub played-by : (c : ℕ) (places : List ℕ) (levels amplitudes : List Float) (now : Mixer) → length (m .played) ≡ soundLines → MixerOk s c now → StandsStill s m places levels amplitudes now → playedBy s places (m .played) ≡ now .played
   unfolding playedBy
-  played-by c places values now long h k =
+  played-by c places levels amplitudes now long h k =
       ext-getD 0 (playedBy s places (m .played)) (now .played) (changed-length f (s .«sound_count») (m .played) ∙ long ∙ sym (h .soundPlaces))
       (λ i b. ⊎-elim (λ (l : i < s .«sound_count»). line i l) (λ (l : s .«sound_count» ≤ i). changed-from f (s .«sound_count») (m .played) i 0 l ∙ sym (k .idle i l)) (below-or-not i (s .«sound_count»)))
     where
       f : ℕ → ℕ → ℕ
-      f i x = soundLine s i .count - getD places (320 + i) 0
+      f i x = soundLine s i .count - getD places (soundLeftsFrom + i) 0
 
       back : (count done : ℕ) → done ≤ count → count - (count - done) ≡ done
       back count done h = omega arith
@@ -174,9 +180,9 @@ module _ (s : Scene) (m : Mixer) (ok : SceneOk s) where
       line : (i : ℕ) → i < s .«sound_count» → getD (playedBy s places (m .played)) i 0 ≡ getD (now .played) i 0
       line i l =
           changed-below f (s .«sound_count») (m .played) i 0 l (le-trans l (le-trans (ok .soundCount) (le-of-eq (sym long))))
-          ∙ ap (λ (x : ℕ). soundLine s i .count - x) (stands-left s now places values ok (k .stands) i l)
+          ∙ ap (λ (x : ℕ). soundLine s i .count - x) (stands-left s now places levels amplitudes ok (k .stands) i l)
           ∙ back (soundLine s i .count) (getD (now .played) i 0) (h .played i l)
 
   -- the mixer put together again
-  pub mixer-again : (c : ℕ) (places : List ℕ) (values : List Float) (now : Mixer) {clocks : Clocks} {played : List ℕ} → length (m .played) ≡ 64 → MixerOk s c now → StandsStill s m places values now → clocks ≡ now .clocks → played ≡ playedBy s places (m .played) → afterRun clocks played m ≡ now
-  mixer-again c places values now long h k p q = ap₂ (λ x y. afterRun x y m) p (q ∙ played-by c places values now long h k) ∙ sym (k .rest)
+  pub mixer-again : (c : ℕ) (places : List ℕ) (levels amplitudes : List Float) (now : Mixer) {clocks : Clocks} {played : List ℕ} → length (m .played) ≡ soundLines → MixerOk s c now → StandsStill s m places levels amplitudes now → clocks ≡ now .clocks → played ≡ playedBy s places (m .played) → afterRun clocks played m ≡ now
+  mixer-again c places levels amplitudes now long h k p q = ap₂ (λ x y. afterRun x y m) p (q ∙ played-by c places levels amplitudes now long h k) ∙ sym (k .rest)

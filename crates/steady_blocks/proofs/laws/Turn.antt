@@ -9,6 +9,7 @@ use lib.Dec.{eqb, lit≤}
 use lib.ListN.{length, getD, set, take, drop, length-set}
 use lib.Ieee.{Float}
 use borrow.Author.Tests.{eqb-true, eqb-false}
+use Rattle.limits.specs.Limits.{blockFramesMost, channelsMost}
 use Rattle.laws.proofs.laws.Loop.{upto-turn, upto-holds}
 use Rattle.laws.specs.Pieces.{pieces, begun}
 use Rattle.laws.proofs.laws.Pieces.{length-pieces, begun-end}
@@ -18,10 +19,11 @@ use Rattle.clock.specs.ChunkTime.{chunkTime}
 use Rattle.scene.specs.declared.scene.Head.{Head}
 use Rattle.chunk.specs.declared.chunk.Chunk.{Chunk}
 use Rattle.frame.specs.Frame.{clamped}
-use Rattle.chunk.specs.Chunk.{ChunkOk, IsParts}
+use Rattle.chunk.specs.Chunk.{ChunkOk, partsOf}
 use Rattle.track.specs.Mix.{mixedFrame}
 use Rattle.renderer.specs.Renderer.{chunkCount, chunkFrames, channelsOf}
 use Rattle.renderer.proofs.laws.Lengths.{chunk-starts, frames-full, place-ends, length-channels, length-all, piece-turn}
+use Rattle.chunk.specs.Flat.{soundStartsFrom, soundLeftsFrom, soundCountPlace, placesSize}
 use Rattle.chunk.specs.Flat.{chunkFrom}
 use Rattle.steady_blocks.specs.Advance.{framed, soundOn, advanced, TracksThere}
 use Rattle.steady_blocks.proofs.laws.Stands.{framed-long}
@@ -31,7 +33,7 @@ use Rattle.steady_blocks.specs.SteadyBlock.{stillPlaces, stillClocks, mi
 
 advanced-long : (n : ℕ) (places : List ℕ) → length (advanced n places) ≡ length places
 unfolding advanced soundOn
-advanced-long n places = upto-holds (λ i x. length x ≡ length places) (soundOn n) (getD places 388 0) places refl (λ k b x e. length-set (set x (256 + k) _) (320 + k) _ ∙ length-set x (256 + k) _ ∙ e)
+advanced-long n places = upto-holds (λ i x. length x ≡ length places) (soundOn n) (getD places soundCountPlace 0) places refl (λ k b x e. length-set (set x (soundStartsFrom + k) _) (soundLeftsFrom + k) _ ∙ length-set x (soundStartsFrom + k) _ ∙ e)
 
 still-long : (h : Head) (k : ℕ) (places : List ℕ) → length (stillPlaces h k places) ≡ length places
 unfolding stillPlaces
@@ -42,21 +44,21 @@ unfolding mixedSamples
 length-mixed channels n c samples = length-pieces (λ i. channelsOf channels (clamped (mixedFrame c samples i))) channels n (λ i l. length-channels channels (clamped (mixedFrame c samples i)))
 
 -- chunk k of a block
-abbrev pub stillPiece : Head → List ℕ → List Float → List Float → ℕ → List Float
-stillPiece h places values samples k = stillChunk h values samples k (stillPlaces h k places)
+abbrev pub stillPiece : Head → List ℕ → List Float → List Float → List Float → ℕ → List Float
+stillPiece h places levels amplitudes samples k = stillChunk h levels amplitudes samples k (stillPlaces h k places)
 
-module _ (h : Head) (places : List ℕ) (values samples : List Float) where
-  length-piece : (k : ℕ) → length (stillPiece h places values samples k) ≡ chunkFrames h k * h .channels
+module _ (h : Head) (places : List ℕ) (levels amplitudes samples : List Float) where
+  length-piece : (k : ℕ) → length (stillPiece h places levels amplitudes samples k) ≡ chunkFrames h k * h .channels
   unfolding stillChunk
-  length-piece k = length-mixed (h .channels) (chunkFrames h k) (chunkFrom (framed (chunkFrames h k) (stillPlaces h k places)) values) samples
+  length-piece k = length-mixed (h .channels) (chunkFrames h k) (chunkFrom (framed (chunkFrames h k) (stillPlaces h k places)) levels amplitudes) samples
 
-  pub still-end : 1 ≤ h .buffer → (out₀ : List Float) {k : ℕ} {out : List Float} → length out₀ ≡ h .block * h .channels → k ≡ chunkCount h → out ≡ begun (pieces (stillPiece h places values samples) k) out₀ → out ≡ stillSamples h places values samples
+  pub still-end : 1 ≤ h .buffer → (out₀ : List Float) {k : ℕ} {out : List Float} → length out₀ ≡ h .block * h .channels → k ≡ chunkCount h → out ≡ begun (pieces (stillPiece h places levels amplitudes samples) k) out₀ → out ≡ stillSamples h places levels amplitudes samples
   unfolding stillSamples
-  still-end some out₀ long last e = begun-end (stillPiece h places values samples) out₀ last (length-all h some (stillPiece h places values samples) length-piece ∙ sym long) e
+  still-end some out₀ long last e = begun-end (stillPiece h places levels amplitudes samples) out₀ last (length-all h some (stillPiece h places levels amplitudes samples) length-piece ∙ sym long) e
 
 -- ---- a turn
 
-module _ {h : Head} {places : List ℕ} {values samples : List Float} {clocks : Clocks} (ok : StillOk h places values samples clocks) {k count : ℕ} (l : k < count) (all : count ≡ chunkCount h) where
+module _ {h : Head} {places : List ℕ} {levels amplitudes samples : List Float} {clocks : Clocks} (ok : StillOk h places levels amplitudes samples clocks) {k count : ℕ} (l : k < count) (all : count ≡ chunkCount h) where
   inside : k < chunkCount h
   inside = subst (λ (n : ℕ). k < n) all l
 
@@ -67,15 +69,15 @@ module _ {h : Head} {places : List ℕ} {values samples : List Float} {clocks : 
     pub turn-ends : k * h .buffer * h .channels + n * h .channels ≤ h .block * h .channels
     turn-ends = place-ends h k n (h .channels) (ok .buffer .0) inside is
 
-    pub turn-fits : k * h .buffer * h .channels + n * h .channels ≤ 4096
+    pub turn-fits : k * h .buffer * h .channels + n * h .channels ≤ blockFramesMost * channelsMost
     turn-fits = le-trans turn-ends (le-trans (mul-le-mul (ok .block) (ok .channels)) (lit≤ tt))
 
-    pub turn-parts : (full last : List Float) → IsParts (h .buffer) full → IsParts (chunkFrames h (chunkCount h - 1)) last → IsParts n (cond (eqb (k + 1) count) last full)
+    pub turn-parts : (full last : List Float) → full ≡ partsOf (h .buffer) → last ≡ partsOf (chunkFrames h (chunkCount h - 1)) → cond (eqb (k + 1) count) last full ≡ partsOf n
     turn-parts full last whole rest = go (eqb (k + 1) count) refl
       where
-        go : (b : Bool) → eqb (k + 1) count ≡ b → IsParts n (cond b last full)
-        go true e = let ends : k + 1 ≡ count = eqb-true (k + 1) count e in subst (λ (i : ℕ). IsParts i last) (sym (is ∙ ap (chunkFrames h) (omega arith))) rest
-        go false e = let more : k + 1 ≡ count → ⊥ = eqb-false (k + 1) count e in subst (λ (i : ℕ). IsParts i full) (sym (is ∙ frames-full h k (ok .buffer .0) (omega arith))) whole
+        go : (b : Bool) → eqb (k + 1) count ≡ b → cond b last full ≡ partsOf n
+        go true e = let ends : k + 1 ≡ count = eqb-true (k + 1) count e in subst (λ (i : ℕ). last ≡ partsOf i) (sym (is ∙ ap (chunkFrames h) (omega arith))) rest
+        go false e = let more : k + 1 ≡ count → ⊥ = eqb-false (k + 1) count e in subst (λ (i : ℕ). full ≡ partsOf i) (sym (is ∙ frames-full h k (ok .buffer .0) (omega arith))) whole
 
     pub turn-moves : {now : Clocks} {dt : Float} → now ≡ stillClocks h k clocks → dt ≡ chunkTime (h .rate) n → CanMoveAll now dt
     turn-moves {now} {dt} p q = subst (λ (x : Clocks). CanMoveAll x dt) (sym p) (subst (CanMoveAll (stillClocks h k clocks)) (sym (q ∙ ap (chunkTime (h .rate)) is)) (ok .moves k inside))
@@ -85,23 +87,23 @@ module _ {h : Head} {places : List ℕ} {values samples : List Float} {clocks : 
     clocks-turn {now} p q r = r ∙ ap (clocksUpdated now) (q ∙ ap (chunkTime (h .rate)) is) ∙ upto-turn (λ j c. clocksUpdated c (chunkTime (h .rate) (chunkFrames h j))) k clocks p
 
     module _ {now : List ℕ} (e : now ≡ stillPlaces h k places) where
-      pub turn-long : length now ≡ 389
+      pub turn-long : length now ≡ placesSize
       turn-long = ap length e ∙ still-long h k places ∙ ok .long
 
-      pub turn-mixes : ChunkOk (chunkFrom (framed n now) values) samples
-      turn-mixes = subst (λ (c : Chunk). ChunkOk c samples) (ap₂ (λ (i : ℕ) (p : List ℕ). chunkFrom (framed i p) values) (sym is) (sym e)) (ok .chunks k inside)
+      pub turn-mixes : ChunkOk (chunkFrom (framed n now) levels amplitudes) samples
+      turn-mixes = subst (λ (c : Chunk). ChunkOk c samples) (ap₂ (λ (i : ℕ) (p : List ℕ). chunkFrom (framed i p) levels amplitudes) (sym is) (sym e)) (ok .chunks k inside)
 
-      pub turn-there : TracksThere now (getD now 388 0)
-      turn-there = subst (λ (p : List ℕ). TracksThere p (getD p 388 0)) (sym e) (ok .tracks k inside)
+      pub turn-there : TracksThere now (getD now soundCountPlace 0)
+      turn-there = subst (λ (p : List ℕ). TracksThere p (getD p soundCountPlace 0)) (sym e) (ok .tracks k inside)
 
       pub places-turn : {next : List ℕ} → next ≡ advanced n (framed n now) → next ≡ stillPlaces h (k + 1) places
       unfolding stillPlaces
       places-turn q = q ∙ ap (λ (i : ℕ). advanced i (framed i now)) is ∙ upto-turn (λ j p. advanced (chunkFrames h j) (framed (chunkFrames h j) p)) k places e
 
-      pub samples-turn : (out₀ : List Float) {out last : List Float} → out ≡ begun (pieces (stillPiece h places values samples) k) out₀ → last ≡ mixedSamples (h .channels) n (chunkFrom (framed n now) values) samples
+      pub samples-turn : (out₀ : List Float) {out last : List Float} → out ≡ begun (pieces (stillPiece h places levels amplitudes samples) k) out₀ → last ≡ mixedSamples (h .channels) n (chunkFrom (framed n now) levels amplitudes) samples
           → take (k * h .buffer * h .channels) out ++ (last ++ drop (k * h .buffer * h .channels + n * h .channels - k * h .buffer * h .channels) (drop (k * h .buffer * h .channels) out))
-          ≡ begun (pieces (stillPiece h places values samples) (k + 1)) out₀
+          ≡ begun (pieces (stillPiece h places levels amplitudes samples) (k + 1)) out₀
       unfolding stillChunk
       samples-turn out₀ p q =
-          piece-turn h (ok .buffer .0) (stillPiece h places values samples) (length-piece h places values samples) k n inside is out₀ p
-          (q ∙ ap₂ (λ (i : ℕ) (x : List ℕ). mixedSamples (h .channels) i (chunkFrom (framed i x) values) samples) is e)
+          piece-turn h (ok .buffer .0) (stillPiece h places levels amplitudes samples) (length-piece h places levels amplitudes samples) k n inside is out₀ p
+          (q ∙ ap₂ (λ (i : ℕ) (x : List ℕ). mixedSamples (h .channels) i (chunkFrom (framed i x) levels amplitudes) samples) is e)

@@ -26,7 +26,7 @@ use Rattle.chunk.specs.declared.chunk.ChunkSound.{ChunkSound}
 use Rattle.chunk.specs.declared.chunk.Chunk.{Chunk}
 use Rattle.mixer.specs.declared.sub.Track.{Track}
 use Rattle.mixer.specs.declared.mixer.Mixer.{Mixer}
-use Rattle.laws.proofs.laws.Choice.{cond-true, true-T}
+use Rattle.laws.proofs.laws.Choice.{cond-true, true-T, and-left, and-right}
 use Rattle.laws.specs.Loop.{changed}
 use Rattle.laws.proofs.laws.Loop.{upto-holds}
 use Rattle.laws.specs.DecibelRange.{ValueRange}
@@ -35,7 +35,7 @@ use Rattle.clock.specs.WhenToStart.{clocksUpdated}
 use Rattle.parameter.specs.declared.parameter.ParameterUpdate.{ParameterUpdate}
 use Rattle.parameter.specs.Parameter.{withPrevious, withNewValue, tweenUpdate, parameterUpdate}
 use Rattle.playback.specs.declared.playback_state_manager.PlaybackStateManager.{PlaybackStateManager}
-use Rattle.scene_questions.proofs.laws.Loops.{and-left, and-right, every-at}
+use Rattle.scene_tables.proofs.laws.Every.{every-at}
 use Rattle.accepted.specs.SceneOk.{SceneOk}
 use Rattle.mixer.specs.Sub.{trackMoved, trackStill, trackUpdate}
 use Rattle.mixer.specs.MixerOk.{MixerOk}

@@ -4,7 +4,7 @@ use mathlib.Core.Bool.{Bool, true, false, not, _&&_}
 use Prim.Native.Nat.{ℕ, _+_, _<_}
 use borrow.Author.Tests.{not-true, not-false}
 use Rattle.scene_tables.specs.Bytes.{every}
-use Rattle.scene_questions.proofs.laws.Loops.{every-failed, every-passed}
+use Rattle.scene_tables.proofs.laws.Every.{every-failed, every-passed}
 
 pub and-no : {a : Bool} (rest : Bool) → a ≡ false → false ≡ (a && rest)
 and-no rest e = ap (λ (y : Bool). y && rest) (sym e)

@@ -3,7 +3,8 @@
 use mathlib.Core.Path.{_≡_, refl, sym, ap, ap₂, _∙_, subst}
 use mathlib.Core.Bool.{Bool, true, false, cond}
 use mathlib.Core.List.{List}
-use Prim.Native.Nat.{ℕ, zero, suc, _+_, _-_, _*_, _≤_, _<_}
+use Prim.Native.Nat.{ℕ, zero, suc, _-_, _*_, _≤_, _<_}
+use native.Mathlib.Nat.{le-refl}
 use native.Mathlib.Omega.{arith}
 use lib.Dec.{T}
 use lib.ListN.{length, replicate}
@@ -15,12 +16,12 @@ use Rattle.laws.proofs.laws.Float.{Zero, positive-zero}
 use Rattle.laws.proofs.laws.FloatZero.{absorb, never-negZero, posZero-not-neg, posZero-fits}
 use Rattle.frame.specs.declared.frame.Frame.{Frame}
 use Rattle.chunk.specs.declared.chunk.Chunk.{Chunk}
-use Rattle.frame.specs.Frame.{zeroFrame, added, scaled, frameAt, withFrames, cleared, zeroSample}
+use Rattle.frame.specs.Frame.{zeroFrame, added, scaled, addedFrom, cleared, zeroSample}
+use Rattle.frame.specs.Layout.{scratch, frameAt, withFrames}
 use Rattle.chunk.specs.Chunk.{amountAt, trackAmplitude, trackRow}
-use Rattle.track.specs.Sound.{withSounds}
-use Rattle.track.specs.Sub.{overSubTracks, trackFrame, addedTrack}
-use Rattle.frame.proofs.laws.Frame.{withFrames-at, silent-at}
-use Rattle.frame.specs.Running.{Both, Running, AllRunning}
+use Rattle.track.specs.Sub.{trackFrame, trackSum}
+use Rattle.frame.proofs.laws.Layout.{first-at, silent-at}
+use Rattle.frame.specs.Running.{Both, Running, AllRunning, AllZero}
 
 abbrev pub Fits : Float → Type 0
 Fits x = T (fits binary32 x)
@@ -70,26 +71,26 @@ unfolding trackFrame
 track-fits zero c samples line i = both-zero Fits (posZero-fits binary32)
 track-fits (suc d) c samples line i =
     let track = trackRow c (line - 1) in
-    let sum : Frame = withSounds c samples line i (overSubTracks c line (λ below x. added x (trackFrame d c samples below i)) zeroFrame) in
+    let sum : Frame = trackSum d c samples line i in
     let factor : Amplitude = trackAmplitude track (amountAt i (c .frames)) in
     picked-if (Both Fits) (track .advancing) (scaled sum factor) zeroFrame (λ t. scaled-fits sum factor) (both-zero Fits (posZero-fits binary32))
 
 -- ---- buffers
 
--- frame k of n stands in a buffer of m places
-pub inside : (k n m : ℕ) → k < n → 2 * n ≤ m → 2 * k + 1 < m
-inside k n m p h = omega arith
+pub zero-silent : (m n : ℕ) → 2 * n ≤ m → AllZero n (replicate m zeroSample)
+zero-silent m n h i p = silent-at (scratch 0 n) m i p (omega arith)
 
-pub running-silent : (m n : ℕ) → 2 * n ≤ m → AllRunning n (replicate m zeroSample)
-running-silent m n h i p = subst (Both Running) (sym (silent-at m i (inside i n m p h))) running-zero
+pub running-silent : (n : ℕ) (l : List Float) → AllZero n l → AllRunning n l
+running-silent n l z i p = subst (Both Running) (sym (z i p)) running-zero
 
 module _ (n : ℕ) (l : List Float) {last : List Float} (long : 2 * n ≤ length l) where
-  pub running-cleared : last ≡ withFrames cleared n l → AllRunning n last
-  running-cleared e i p =
-      subst (Both Running) (sym (ap (λ (r : List Float). frameAt r i) e ∙ withFrames-at cleared n l i p (inside i n (length l) p long))) running-zero
+  after : (f : ℕ → Frame → Frame) (i : ℕ) → i < n → last ≡ withFrames (scratch 0 n) f l → frameAt (scratch 0 n) last i ≡ f i (frameAt (scratch 0 n) l i)
+  after f i p e = ap (λ (r : List Float). frameAt (scratch 0 n) r i) e ∙ first-at (scratch 0 n) f n l i (le-refl n) (omega (arith, long)) p
 
-  pub running-track : (d : ℕ) (c : Chunk) (samples : List Float) (line : ℕ) → AllRunning n l → last ≡ withFrames (addedTrack d c samples line) n l → AllRunning n last
-  unfolding addedTrack
+  pub running-cleared : last ≡ withFrames (scratch 0 n) cleared l → AllRunning n last
+  running-cleared e i p = subst (Both Running) (sym (after cleared i p e)) running-zero
+
+  pub running-track : (d : ℕ) (c : Chunk) (samples : List Float) (line : ℕ) → AllRunning n l → last ≡ withFrames (scratch 0 n) (addedFrom (trackFrame d c samples line)) l → AllRunning n last
+  unfolding addedFrom
   running-track d c samples line r e i p =
-      subst (Both Running) (sym (ap (λ (x : List Float). frameAt x i) e ∙ withFrames-at (addedTrack d c samples line) n l i p (inside i n (length l) p long)))
-      (running-added (r i p) (track-fits d c samples line i))
+      subst (Both Running) (sym (after (addedFrom (trackFrame d c samples line)) i p e)) (running-added (r i p) (track-fits d c samples line i))

@@ -1,200 +1,185 @@
 -- What a track's loops over the tracks below it, and over its routes, come to. The loops' turns have names here: `subStep` and `subSend` for track j,
--- counted from 0, `routeStep` for route r. Assumes nothing.
-use mathlib.Core.Path.{_≡_, refl, sym, ap, _∙_, subst}
+-- counted from 0, `routeStep` for route r. Then a whole track: its sum is gathered from zeros, scaled, and added. Assumes nothing.
+use mathlib.Core.Path.{_≡_, refl, sym, ap, _∙_}
 use mathlib.Core.Bool.{Bool, true, false, cond, _&&_}
 use mathlib.Core.List.{List}
-use Prim.Native.Nat.{ℕ, suc, _+_, _-_, _*_, _≤_, _<_}
+use Prim.Native.Nat.{ℕ, suc, _-_, _*_, _≤_, _<_}
+use native.Mathlib.Nat.{le-refl}
 use native.Mathlib.Omega.{arith}
-use lib.Dec.{T, eqb, eqb→eq, eqb-refl}
-use lib.ListN.{replicate, length-replicate}
+use borrow.Author.Tests.{eq-eqb, ne-eqb}
+use lib.Dec.{eqb}
+use lib.ListN.{length}
 use lib.Ieee.{Float}
+use Rattle.limits.specs.Limits.{sendLines, chunkFramesMost}
 use Rattle.laws.proofs.laws.Choice.{cond-true, cond-false}
 use Rattle.laws.specs.Loop.{upto, downto}
 use Rattle.frame.specs.declared.frame.Frame.{Frame}
 use Rattle.chunk.specs.declared.chunk.Chunk.{Chunk}
-use Rattle.frame.specs.Frame.{withFrames, zeroFrame, added, scaled, frameAt, addedFrom, addedScaled, placed, zeroSample}
+use Rattle.frame.specs.Frame.{zeroFrame, added, scaled, addedFrom, addedScaled}
+use Rattle.frame.specs.Layout.{scratch, frameAt, withFrames}
+use Rattle.frame.specs.Running.{AllRunning, AllZero}
 use Rattle.chunk.specs.Chunk.{amountAt, trackAmplitude, routeRow, trackRow}
 use Rattle.track.specs.Sound.{withSounds}
-use Rattle.track.specs.Sub.{overSubTracks, trackFrame, withRoutes, withTrackSends, trackScaled, onSends, sendFrames, withRoutesFrom, withSendsOf, addedTrack}
-use Rattle.frame.proofs.laws.Picks.{picks-eq, leaves-eq}
-use Rattle.frame.proofs.laws.Frame.{Step, withFrames-at, withFrames-cong, withFrames-same, withFrames-held, withFrames-further, withFrames-twice, placed-above, silent-at}
-use Rattle.frame.proofs.laws.Turn.{step-picked, step-left}
-use Rattle.frame.specs.Running.{AllRunning}
-use Rattle.track.proofs.laws.Running.{zeros, absorbed, inside}
-use Rattle.track.proofs.laws.Send.{SendStep, onSends-cong, onSends-same, onSends-twice, onSends-upto, onSends-downto, placed-send}
+use Rattle.track.specs.Send.{sendPlaces, sendLayout, onSends}
+use Rattle.track.specs.Sub.{overSubTracks, sumOver, trackSum, trackFrame, withRoutes, withTrackSends, withSubSends, sumSet, trackScaled, withRoutesFrom}
+use Rattle.frame.proofs.laws.Layout.{Step, first-at, first-cong, first-cong-at, first-held, first-twice}
+use Rattle.frame.proofs.laws.Turn.{frames-steps, step-picked, step-left}
+use Rattle.track.proofs.laws.Running.{zeros, absorbed}
+use Rattle.track.proofs.laws.Send.{SendStep, allSends, onSends-cong, onSends-same, onSends-twice, one-send}
 
 -- ---- routes
 
-abbrev pub routeStep : Chunk → ℕ → List Float → ℕ → Step
-routeStep c line out r =
-    onSends (c .frames) (λ s i x. cond (eqb (routeRow c r .track) line && eqb (routeRow c r .send) s) (added x (scaled (frameAt out i) (routeRow c r .amplitude))) x)
+abbrev pub routeStep : Chunk → ℕ → (ℕ → Frame) → ℕ → ℕ × ℕ → Frame → Frame
+routeStep c line frames r p x = cond (eqb (routeRow c r .track) line && eqb (routeRow c r .send) (p .0)) (added x (scaled (frames (p .1)) (routeRow c r .amplitude))) x
 
-and-picked : (p b : Bool) (x y : Frame) → T p → cond b x y ≡ cond (p && b) x y
-and-picked true b x y t = refl
-and-picked false b x y t = absurd t
-
-and-left : (p b : Bool) (x y : Frame) → (T p → ⊥) → cond (p && b) x y ≡ y
-and-left true b x y t = absurd (t tt)
-and-left false b x y t = refl
-
-module _ (c : Chunk) (line : ℕ) (out : List Float) (r : ℕ) (l : List Float) where
-  pub route-taken : routeRow c r .track ≡ line → 1 ≤ routeRow c r .send → routeRow c r .send ≤ 8 → c .frames ≤ 256 → withFrames (placed ((routeRow c r .send - 1) * 256) (c .frames) (addedScaled out (routeRow c r .amplitude))) ((routeRow c r .send - 1) * 256 + c .frames) l ≡ withFrames (routeStep c line out r) sendFrames l
+module _ (c : Chunk) (line : ℕ) (frames : ℕ → Frame) (r : ℕ) (l : List Float) where
+  pub route-taken : routeRow c r .track ≡ line → 1 ≤ routeRow c r .send → routeRow c r .send ≤ sendLines → withFrames (sendLayout (routeRow c r .send - 1) (c .frames)) (addedScaled frames (routeRow c r .amplitude)) l ≡ allSends (c .frames) (routeStep c line frames r) l
   unfolding addedScaled
-  route-taken e low high short =
+  route-taken e low high =
       let send = routeRow c r .send in
-      let n = c .frames in
-      let f : Step = addedScaled out (routeRow c r .amplitude) in
-      let test : T (eqb (routeRow c r .track) line) = rw e (eqb-refl line) in
-      withFrames-further (placed ((send - 1) * 256) n f) ((send - 1) * 256 + n) sendFrames l (last send n low high short) (λ k q a. placed-above ((send - 1) * 256) n f k a q)
-      ∙ withFrames-cong (placed ((send - 1) * 256) n f) (routeStep c line out r) sendFrames l
-      (λ k p q a. placed-send send n f k a low short
-      ∙ onSends-cong n (λ t i x. cond (eqb send t) (f i x) x) (λ s i x. cond (eqb (routeRow c r .track) line && eqb send s) (f i x) x) k a
-      (λ s i h. and-picked (eqb (routeRow c r .track) line) (eqb send s) (f i a) a test))
-    where
-      last : (send n : ℕ) → 1 ≤ send → send ≤ 8 → n ≤ 256 → (send - 1) * 256 + n ≤ 2048
-      last send n a b d = omega arith
+      let f : Step = addedScaled frames (routeRow c r .amplitude) in
+      one-send (c .frames) send f l low high
+      ∙ sym (ap (λ (b : Bool). onSends (c .frames) (λ s i x. cond (b && eqb send s) (f i x) x) l) (eq-eqb (routeRow c r .track) line e))
 
-  pub route-left : (routeRow c r .track ≡ line → ⊥) → withFrames (routeStep c line out r) sendFrames l ≡ l
+  pub route-left : (routeRow c r .track ≡ line → ⊥) → allSends (c .frames) (routeStep c line frames r) l ≡ l
   route-left e =
-      withFrames-same (routeStep c line out r) sendFrames l
-      (λ k p a. onSends-same (c .frames) (λ s i x. cond (eqb (routeRow c r .track) line && eqb (routeRow c r .send) s) (added x (scaled (frameAt out i) (routeRow c r .amplitude))) x) k a
-      (λ s i. and-left (eqb (routeRow c r .track) line) (eqb (routeRow c r .send) s) (added a (scaled (frameAt out i) (routeRow c r .amplitude))) a (λ t. e (eqb→eq (routeRow c r .track) line t))))
+      ap (λ (b : Bool). onSends (c .frames) (λ s i x. cond (b && eqb (routeRow c r .send) s) (added x (scaled (frames i) (routeRow c r .amplitude))) x) l) (ne-eqb (routeRow c r .track) line e)
+      ∙ onSends-same (c .frames) (λ s i a. a) l (λ s i a. refl)
 
-pub routes-done : (c : Chunk) (line : ℕ) (out l : List Float) → withFrames (λ k a. upto (λ r x. routeStep c line out r k x) (c .«route_count») a) sendFrames l ≡ withFrames (withRoutesFrom c line out) sendFrames l
+pub routes-done : (c : Chunk) (line : ℕ) (frames : ℕ → Frame) (l : List Float) → allSends (c .frames) (λ p a. upto (λ r x. routeStep c line frames r p x) (c .«route_count») a) l ≡ onSends (c .frames) (withRoutesFrom c line frames) l
 unfolding withRoutesFrom withRoutes
-routes-done c line out l =
-    withFrames-cong (λ k a. upto (λ r x. routeStep c line out r k x) (c .«route_count») a) (withRoutesFrom c line out) sendFrames l
-    (λ k p q a. onSends-upto (c .frames)
-    (λ r s i x. cond (eqb (routeRow c r .track) line && eqb (routeRow c r .send) s) (added x (scaled (frameAt out i) (routeRow c r .amplitude))) x) (c .«route_count») k a)
+routes-done c line frames l = refl
 
 -- ---- the tracks below
 
 abbrev pub subStep : ℕ → Chunk → List Float → ℕ → ℕ → Step
 subStep d c samples line j i x = cond (eqb (trackRow c j .parent) line) (added x (trackFrame d c samples (suc j) i)) x
 
-abbrev pub subSend : ℕ → Chunk → List Float → ℕ → ℕ → Step
-subSend d c samples line j = onSends (c .frames) (λ s i x. cond (eqb (trackRow c j .parent) line) (withTrackSends d c samples (suc j) s i x) x)
+abbrev pub subSend : ℕ → Chunk → List Float → ℕ → ℕ → ℕ × ℕ → Frame → Frame
+subSend d c samples line j p x = cond (eqb (trackRow c j .parent) line) (withTrackSends d c samples (suc j) (p .0) (p .1) x) x
 
 -- all of them, as one step
 abbrev pub subSum : ℕ → Chunk → List Float → ℕ → Step
 subSum d c samples line i a = overSubTracks c line (λ below x. added x (trackFrame d c samples below i)) a
 
-abbrev pub subSends : ℕ → Chunk → List Float → ℕ → Step
-subSends d c samples line = onSends (c .frames) (λ s i a. overSubTracks c line (λ below x. withTrackSends d c samples below s i x) a)
-
 line-of : (j : ℕ) → 0 < j → j ≡ suc (j - 1)
 line-of j h = omega arith
 
 module _ (d : ℕ) (c : Chunk) (samples : List Float) (line j : ℕ) (l : List Float) where
-  pub sub-taken : 0 < j → trackRow c (j - 1) .parent ≡ line → withFrames (addedTrack d c samples j) (c .frames) l ≡ withFrames (subStep d c samples line (j - 1)) (c .frames) l
-  unfolding addedTrack
+  pub sub-taken : 0 < j → trackRow c (j - 1) .parent ≡ line → withFrames (scratch 0 (c .frames)) (addedFrom (trackFrame d c samples j)) l ≡ withFrames (scratch 0 (c .frames)) (subStep d c samples line (j - 1)) l
+  unfolding addedFrom
   sub-taken h e =
-      ap (λ (k : ℕ). withFrames (addedTrack d c samples k) (c .frames) l) (line-of j h)
-      ∙ sym (step-picked (trackRow c (j - 1) .parent) line (λ i x. added x (trackFrame d c samples (suc (j - 1)) i)) (c .frames) l e)
+      ap (λ (k : ℕ). withFrames (scratch 0 (c .frames)) (addedFrom (trackFrame d c samples k)) l) (line-of j h)
+      ∙ sym (step-picked (withFrames (scratch 0 (c .frames))) (trackRow c (j - 1) .parent) line (addedFrom (trackFrame d c samples (suc (j - 1)))) l e)
 
-  pub send-taken : 0 < j → trackRow c (j - 1) .parent ≡ line → withFrames (withSendsOf d c samples j) sendFrames l ≡ withFrames (subSend d c samples line (j - 1)) sendFrames l
-  unfolding withSendsOf
+  pub send-taken : 0 < j → trackRow c (j - 1) .parent ≡ line → onSends (c .frames) (withTrackSends d c samples j) l ≡ allSends (c .frames) (subSend d c samples line (j - 1)) l
   send-taken h e =
-      ap (λ (k : ℕ). withFrames (onSends (c .frames) (λ s i a. withTrackSends d c samples k s i a)) sendFrames l) (line-of j h)
-      ∙ withFrames-cong (onSends (c .frames) (λ s i a. withTrackSends d c samples (suc (j - 1)) s i a)) (subSend d c samples line (j - 1)) sendFrames l
-      (λ k p q a. onSends-cong (c .frames) (λ s i a. withTrackSends d c samples (suc (j - 1)) s i a) (λ s i x. cond (eqb (trackRow c (j - 1) .parent) line) (withTrackSends d c samples (suc (j - 1)) s i x) x) k a
-      (λ s i b. sym (picks-eq (trackRow c (j - 1) .parent) line (withTrackSends d c samples (suc (j - 1)) s i a) a e)))
+      ap (λ (k : ℕ). onSends (c .frames) (withTrackSends d c samples k) l) (line-of j h)
+      ∙ sym (step-picked (allSends (c .frames)) (trackRow c (j - 1) .parent) line (λ p x. withTrackSends d c samples (suc (j - 1)) (p .0) (p .1) x) l e)
 
 -- a track that stands below another one is passed over
 module _ (d : ℕ) (c : Chunk) (samples : List Float) (line k : ℕ) (e : trackRow c k .parent ≡ line → ⊥) (l : List Float) where
-  pub sub-left : withFrames (subStep d c samples line k) (c .frames) l ≡ l
-  sub-left = step-left (trackRow c k .parent) line (λ i x. added x (trackFrame d c samples (suc k) i)) (c .frames) l e
+  pub sub-left : withFrames (scratch 0 (c .frames)) (subStep d c samples line k) l ≡ l
+  unfolding addedFrom
+  sub-left = step-left (withFrames (scratch 0 (c .frames))) (trackRow c k .parent) line (addedFrom (trackFrame d c samples (suc k))) l (frames-steps (scratch 0 (c .frames))) e
 
-  pub send-left : withFrames (subSend d c samples line k) sendFrames l ≡ l
+  pub send-left : allSends (c .frames) (subSend d c samples line k) l ≡ l
   send-left =
-      withFrames-same (subSend d c samples line k) sendFrames l
-      (λ i p a. onSends-same (c .frames) (λ s i x. cond (eqb (trackRow c k .parent) line) (withTrackSends d c samples (suc k) s i x) x) i a
-      (λ s i. leaves-eq (trackRow c k .parent) line (withTrackSends d c samples (suc k) s i a) a e))
+      ap (λ (b : Bool). onSends (c .frames) (λ s i x. cond b (withTrackSends d c samples (suc k) s i x) x) l) (ne-eqb (trackRow c k .parent) line e)
+      ∙ onSends-same (c .frames) (λ s i a. a) l (λ s i a. refl)
 
 module _ (d : ℕ) (c : Chunk) (samples : List Float) (line : ℕ) (l : List Float) where
-  pub sub-done : withFrames (λ i a. downto (λ j x. subStep d c samples line j i x) (c .«track_count») a) (c .frames) l ≡ withFrames (subSum d c samples line) (c .frames) l
+  pub sub-done : withFrames (scratch 0 (c .frames)) (λ i a. downto (λ j x. subStep d c samples line j i x) (c .«track_count») a) l ≡ withFrames (scratch 0 (c .frames)) (subSum d c samples line) l
   unfolding overSubTracks
   sub-done = refl
 
-  pub send-done : withFrames (λ k a. downto (λ j x. subSend d c samples line j k x) (c .«track_count») a) sendFrames l ≡ withFrames (subSends d c samples line) sendFrames l
-  unfolding overSubTracks
-  send-done =
-      withFrames-cong (λ k a. downto (λ j x. subSend d c samples line j k x) (c .«track_count») a) (subSends d c samples line) sendFrames l
-      (λ k p q a. onSends-downto (c .frames) (λ j s i x. cond (eqb (trackRow c j .parent) line) (withTrackSends d c samples (suc j) s i x) x) (c .«track_count») k a)
+  pub send-done : allSends (c .frames) (λ p a. downto (λ j x. subSend d c samples line j p x) (c .«track_count») a) l ≡ onSends (c .frames) (withSubSends d c samples line) l
+  unfolding withSubSends overSubTracks
+  send-done = refl
 
 -- ---- a whole track
 
+-- from zeros, the tracks below it and its sounds
+pub sum-gathered : (d : ℕ) (c : Chunk) (samples : List Float) (line : ℕ) (l : List Float) {under last : List Float} → 2 * c .frames ≤ length l → AllZero (c .frames) l → under ≡ withFrames (scratch 0 (c .frames)) (subSum d c samples line) l → last ≡ withFrames (scratch 0 (c .frames)) (withSounds c samples line) under → last ≡ withFrames (scratch 0 (c .frames)) (sumSet d c samples line) l
+unfolding sumSet sumOver
+sum-gathered d c samples line l w zero a e =
+    let n = c .frames in
+    let L = scratch 0 n in
+    let u : Step = subSum d c samples line in
+    let s : Step = withSounds c samples line in
+    e
+    ∙ ap (withFrames L s) a
+    ∙ first-twice L u s n l (le-refl n) (omega (arith, w))
+    ∙ first-cong-at L (λ k x. s k (u k x)) (sumSet d c samples line) n l (le-refl n) (λ k p. ap (λ (x : Frame). s k (u k x)) (zero k p))
+
 -- the buffer has the track's frames
 abbrev pub HasTrack : ℕ → Chunk → List Float → ℕ → List Float → Type 0
-HasTrack depth c samples line out = (i : ℕ) → i < c .frames → frameAt out i ≡ trackFrame depth c samples line i
+HasTrack depth c samples line out = (i : ℕ) → i < c .frames → frameAt (scratch 0 (c .frames)) out i ≡ trackFrame depth c samples line i
 
-pub track-added : (depth : ℕ) (c : Chunk) (samples : List Float) (line : ℕ) (l out : List Float) {last : List Float} → HasTrack depth c samples line out → last ≡ withFrames (addedFrom out) (c .frames) l → last ≡ withFrames (addedTrack depth c samples line) (c .frames) l
-unfolding addedFrom addedTrack
+pub track-added : (depth : ℕ) (c : Chunk) (samples : List Float) (line : ℕ) (l out : List Float) {last : List Float} → HasTrack depth c samples line out → last ≡ withFrames (scratch 0 (c .frames)) (addedFrom (frameAt (scratch 0 (c .frames)) out)) l → last ≡ withFrames (scratch 0 (c .frames)) (addedFrom (trackFrame depth c samples line)) l
+unfolding addedFrom
 track-added depth c samples line l out has e =
-    e ∙ withFrames-cong (addedFrom out) (addedTrack depth c samples line) (c .frames) l (λ k p _ a. ap (added a) (has k p))
+    let L = scratch 0 (c .frames) in
+    e ∙ first-cong L (addedFrom (frameAt L out)) (addedFrom (trackFrame depth c samples line)) (c .frames) l (λ k p a. ap (added a) (has k p))
 
 module _ (depth d : ℕ) (c : Chunk) (samples : List Float) (line : ℕ) (deep : depth ≡ suc d) where
-  -- m zeros, then the tracks below it, its sounds, and volume times fade
-  pub track-mixed : (m : ℕ) {under heard last : List Float} → 2 * c .frames ≤ m → trackRow c (line - 1) .advancing ≡ true → under ≡ withFrames (subSum d c samples line) (c .frames) (replicate m zeroSample) → heard ≡ withFrames (withSounds c samples line) (c .frames) under → last ≡ withFrames (trackScaled (trackRow c (line - 1)) (c .frames)) (c .frames) heard → HasTrack depth c samples line last
-  unfolding trackFrame trackScaled
-  track-mixed m w moves a b e i p =
+  -- its sum, and volume times fade
+  pub track-mixed : (l : List Float) {sum last : List Float} → 2 * c .frames ≤ length l → trackRow c (line - 1) .advancing ≡ true → sum ≡ withFrames (scratch 0 (c .frames)) (sumSet d c samples line) l → last ≡ withFrames (scratch 0 (c .frames)) (trackScaled (trackRow c (line - 1)) (c .frames)) sum → HasTrack depth c samples line last
+  unfolding trackFrame trackScaled sumSet
+  track-mixed l w moves a e i p =
       let n = c .frames in
+      let L = scratch 0 n in
       let track = trackRow c (line - 1) in
-      let u : Step = subSum d c samples line in
-      let s : Step = withSounds c samples line in
+      let u : Step = sumSet d c samples line in
       let v : Step = trackScaled track n in
-      ap (λ (r : List Float). frameAt r i)
-      (e
-      ∙ ap (withFrames v n) (b ∙ ap (withFrames s n) a ∙ withFrames-twice u s n (replicate m zeroSample))
-      ∙ withFrames-twice (λ k x. s k (u k x)) v n (replicate m zeroSample))
-      ∙ withFrames-at (λ k x. v k (s k (u k x))) n (replicate m zeroSample) i p (subst (λ (k : ℕ). 2 * i + 1 < k) (sym (length-replicate m zeroSample)) (inside i n m p w))
-      ∙ ap (λ (f : Frame). v i (s i (u i f))) (silent-at m i (inside i n m p w))
-      ∙ sym (cond-true (track .advancing) (v i (s i (u i zeroFrame))) zeroFrame moves)
+      ap (λ (r : List Float). frameAt L r i) (e ∙ ap (withFrames L v) a ∙ first-twice L u v n l (le-refl n) (omega (arith, w)))
+      ∙ first-at L (λ k x. v k (u k x)) n l i (le-refl n) (omega (arith, w)) p
+      ∙ sym (cond-true (track .advancing) (scaled (trackSum d c samples line i) (trackAmplitude track (amountAt i n))) zeroFrame moves)
       ∙ ap (λ (z : ℕ). trackFrame z c samples line i) (sym deep)
 
 module _ (depth d : ℕ) (c : Chunk) (samples : List Float) (line : ℕ) (l : List Float) (deep : depth ≡ suc d) where
-  pub track-stopped : AllRunning (c .frames) l → trackRow c (line - 1) .advancing ≡ false → l ≡ withFrames (addedTrack depth c samples line) (c .frames) l
-  unfolding addedTrack trackFrame
+  pub track-stopped : AllRunning (c .frames) l → trackRow c (line - 1) .advancing ≡ false → l ≡ withFrames (scratch 0 (c .frames)) (addedFrom (trackFrame depth c samples line)) l
+  unfolding addedFrom trackFrame
   track-stopped run stops =
+      let L = scratch 0 (c .frames) in
       let track = trackRow c (line - 1) in
-      sym (withFrames-held (addedTrack (suc d) c samples line) (c .frames) l
-      (λ k p. ap (added (frameAt l k)) (cond-false (track .advancing) (scaled (withSounds c samples line k (subSum d c samples line k zeroFrame)) (trackAmplitude track (amountAt k (c .frames)))) zeroFrame stops)
+      sym (first-held L (addedFrom (trackFrame (suc d) c samples line)) (c .frames) l
+      (λ k p. ap (added (frameAt L l k)) (cond-false (track .advancing) (scaled (trackSum d c samples line k) (trackAmplitude track (amountAt k (c .frames)))) zeroFrame stops)
       ∙ absorbed (run k p) zeros))
-      ∙ ap (λ (z : ℕ). withFrames (addedTrack z c samples line) (c .frames) l) (sym deep)
+      ∙ ap (λ (z : ℕ). withFrames L (addedFrom (trackFrame z c samples line)) l) (sym deep)
 
-  pub sends-mixed : (out : List Float) {under last : List Float} → trackRow c (line - 1) .advancing ≡ true → HasTrack depth c samples line out → under ≡ withFrames (subSends d c samples line) sendFrames l → last ≡ withFrames (withRoutesFrom c line out) sendFrames under → last ≡ withFrames (withSendsOf depth c samples line) sendFrames l
-  unfolding withRoutesFrom withSendsOf withTrackSends
-  sends-mixed out moves has a e =
+  pub sends-mixed : (out : List Float) {under last : List Float} → c .frames ≤ chunkFramesMost → length l ≡ sendPlaces → trackRow c (line - 1) .advancing ≡ true → HasTrack depth c samples line out → under ≡ onSends (c .frames) (withSubSends d c samples line) l → last ≡ onSends (c .frames) (withRoutesFrom c line (frameAt (scratch 0 (c .frames)) out)) under → last ≡ onSends (c .frames) (withTrackSends depth c samples line) l
+  unfolding withRoutesFrom withTrackSends withSubSends
+  sends-mixed out short long moves has a e =
       let n = c .frames in
-      let u : SendStep = λ s i x. overSubTracks c line (λ below y. withTrackSends d c samples below s i y) x in
-      let v : SendStep = λ s i x. withRoutes c line s (frameAt out i) x in
-      let z : SendStep = λ s i x. withTrackSends (suc d) c samples line s i x in
+      let u : SendStep = withSubSends d c samples line in
+      let v : SendStep = withRoutesFrom c line (frameAt (scratch 0 n) out) in
+      let z : SendStep = withTrackSends (suc d) c samples line in
       e
-      ∙ ap (withFrames (onSends n v) sendFrames) a
-      ∙ withFrames-twice (onSends n u) (onSends n v) sendFrames l
-      ∙ withFrames-cong (λ k x. onSends n v k (onSends n u k x)) (onSends n z) sendFrames l
-      (λ k p q x. onSends-twice n u v k x ∙ onSends-cong n (λ s i y. v s i (u s i y)) z k x
-      (λ s i h. ap (λ (f : Frame). withRoutes c line s f (u s i x)) (has i h ∙ ap (λ (y : ℕ). trackFrame y c samples line i) deep)
-      ∙ sym (cond-true (trackRow c (line - 1) .advancing) (withRoutes c line s (trackFrame (suc d) c samples line i) (u s i x)) x moves)))
-      ∙ ap (λ (y : ℕ). withFrames (withSendsOf y c samples line) sendFrames l) (sym deep)
+      ∙ ap (onSends n v) a
+      ∙ onSends-twice n short u v l (omega (arith, long))
+      ∙ onSends-cong n (λ s i x. v s i (u s i x)) z l
+      (λ s i h x. ap (λ (f : Frame). withRoutes c line s f (u s i x)) (has i h ∙ ap (λ (y : ℕ). trackFrame y c samples line i) deep)
+      ∙ sym (cond-true (trackRow c (line - 1) .advancing) (withRoutes c line s (trackFrame (suc d) c samples line i) (u s i x)) x moves))
+      ∙ ap (λ (y : ℕ). onSends n (withTrackSends y c samples line) l) (sym deep)
 
-  pub sends-stopped : trackRow c (line - 1) .advancing ≡ false → l ≡ withFrames (withSendsOf depth c samples line) sendFrames l
-  unfolding withSendsOf withTrackSends
+  pub sends-stopped : trackRow c (line - 1) .advancing ≡ false → l ≡ onSends (c .frames) (withTrackSends depth c samples line) l
+  unfolding withTrackSends withSubSends
   sends-stopped stops =
-      sym (withFrames-same (withSendsOf (suc d) c samples line) sendFrames l
-      (λ k p x. onSends-same (c .frames) (λ s i y. withTrackSends (suc d) c samples line s i y) k x
-      (λ s i. cond-false (trackRow c (line - 1) .advancing) (withRoutes c line s (trackFrame (suc d) c samples line i) (overSubTracks c line (λ below y. withTrackSends d c samples below s i y) x)) x stops)))
-      ∙ ap (λ (y : ℕ). withFrames (withSendsOf y c samples line) sendFrames l) (sym deep)
+      sym (onSends-same (c .frames) (withTrackSends (suc d) c samples line) l
+      (λ s i x. cond-false (trackRow c (line - 1) .advancing) (withRoutes c line s (trackFrame (suc d) c samples line i) (withSubSends d c samples line s i x)) x stops))
+      ∙ ap (λ (y : ℕ). onSends (c .frames) (withTrackSends y c samples line) l) (sym deep)
 
 module _ (depth : ℕ) (c : Chunk) (samples : List Float) (line : ℕ) (l : List Float) (flat : depth ≡ 0) where
-  pub track-none : AllRunning (c .frames) l → l ≡ withFrames (addedTrack depth c samples line) (c .frames) l
-  unfolding addedTrack trackFrame
+  pub track-none : AllRunning (c .frames) l → l ≡ withFrames (scratch 0 (c .frames)) (addedFrom (trackFrame depth c samples line)) l
+  unfolding addedFrom trackFrame
   track-none run =
-      sym (withFrames-held (addedTrack 0 c samples line) (c .frames) l (λ k p. absorbed (run k p) zeros))
-      ∙ ap (λ (z : ℕ). withFrames (addedTrack z c samples line) (c .frames) l) (sym flat)
+      let L = scratch 0 (c .frames) in
+      sym (first-held L (addedFrom (trackFrame 0 c samples line)) (c .frames) l (λ k p. absorbed (run k p) zeros))
+      ∙ ap (λ (z : ℕ). withFrames L (addedFrom (trackFrame z c samples line)) l) (sym flat)
 
-  pub sends-none : l ≡ withFrames (withSendsOf depth c samples line) sendFrames l
-  unfolding withSendsOf withTrackSends
+  pub sends-none : l ≡ onSends (c .frames) (withTrackSends depth c samples line) l
+  unfolding withTrackSends
   sends-none =
-      sym (withFrames-same (withSendsOf 0 c samples line) sendFrames l (λ k p x. onSends-same (c .frames) (λ s i y. withTrackSends 0 c samples line s i y) k x (λ s i. refl)))
-      ∙ ap (λ (z : ℕ). withFrames (withSendsOf z c samples line) sendFrames l) (sym flat)
+      sym (onSends-same (c .frames) (withTrackSends 0 c samples line) l (λ s i x. refl))
+      ∙ ap (λ (z : ℕ). onSends (c .frames) (withTrackSends z c samples line) l) (sym flat)

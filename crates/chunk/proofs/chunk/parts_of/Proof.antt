@@ -1,21 +1,23 @@
+-- A loop that replaces the first zeros by the parts: its invariant is `changed`.
 use mathlib.Core.Path.{_≡_, sym, ap, _∙_}
 use mathlib.Core.List.{List}
 use Prim.Native.Nat.{ℕ, _-_, _≤_}
 use native.Mathlib.Omega.{arith}
 use lib.ListN.{set, replicate, length-replicate}
-use lib.Ieee.{Float, nan, binary32, ofBits}
+use lib.IntN.{pos}
+use lib.Ieee.{Float, nan, binary32, ofBits, ofInt}
 use borrow.Author.Needs.{needs}
 use Rattle.laws.specs.Loop.{changed}
 use Rattle.laws.proofs.laws.Loop.{changed-zero, changed-turn, changed-end}
 use Rattle.rounding.specs.Narrow.{narrowed}
-use Rattle.chunk.specs.Chunk.{partAt}
-use Rattle.chunk.proofs.laws.Chunk.{parts-are}
+use Rattle.limits.specs.Limits.{chunkFramesMost}
+use Rattle.chunk.specs.Chunk.{partAt, partsOf}
 use Rattle.chunk.proofs.chunk.parts_of.Statement.{statement}
 use Rattle.chunk.proofs.chunk.parts_of.Tie as tie
 
 -- what the array holds at first
 abbrev zeros : List Float
-zeros = replicate 256 (ofBits binary32 0)
+zeros = replicate chunkFramesMost (ofInt binary32 (pos 0))
 
 -- what is stored at place k
 abbrev part : ℕ → ℕ → Float → Float
@@ -49,7 +51,7 @@ loop-less : tie.Need-loop-less Inv-loop μ-loop
 loop-less c = search needs
 
 loop-again : tie.Need-loop-again Inv-loop μ-loop
-unfolding partAt
+unfolding partAt ofBits ofInt
 loop-again c =
     let l = c .before .before .before in
     let n = l .before .args .frames in
@@ -57,14 +59,13 @@ loop-again c =
     let inv = l .loop .inv in
     let i = l .loop .i in
     let e = c .f64-to-f32 .ensures ∙ ap narrowed (c .before .amount-at .ensures) in
-    (omega (arith, h), ap (set (l .loop .parts) i) e ∙ changed-turn (part n) i zeros nan (omega (arith, h, l .before .pre, length-replicate 256 (ofBits binary32 0))) (inv .1))
+    (omega (arith, h), ap (set (l .loop .parts) i) e ∙ changed-turn (part n) i zeros nan (omega (arith, h, l .before .pre, length-replicate chunkFramesMost (ofInt binary32 (pos 0)))) (inv .1))
 
 returns : tie.Need-returns Inv-loop μ-loop
+unfolding partsOf ofBits ofInt
 returns c =
     let l = c .before in
-    let start = l .before in
-    let n = start .args .frames in
-    parts-are n zeros (start .pre) (length-replicate 256 (ofBits binary32 0)) (changed-end (part n) zeros (omega (arith, c .loop-test .left, l .loop .inv .0)) (l .loop .inv .1))
+    changed-end (part (l .before .args .frames)) zeros (omega (arith, c .loop-test .left, l .loop .inv .0)) (l .loop .inv .1)
 
 pub parts-of-spec : {M : Type 1} → statement M
 parts-of-spec =

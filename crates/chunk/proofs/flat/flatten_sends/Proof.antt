@@ -1,10 +1,12 @@
+-- The send tracks' levels: each turn writes two elements, and loses nothing that was written (`Written`).
 use mathlib.Core.Path.{refl, sym}
 use Prim.Native.Nat.{_+_, _-_, _*_, _≤_, zero-le}
 use native.Mathlib.Omega.{arith}
 use borrow.Author.Needs.{needs}
 use lib.Ieee.{nan}
-use Rattle.chunk.specs.Flat.{valuesOf}
-use Rattle.chunk.proofs.laws.Flat.{value-send}
+use Rattle.limits.specs.Limits.{sendLines}
+use Rattle.chunk.specs.Flat.{levelSize, sendLevelsFrom, levelsOf}
+use Rattle.chunk.proofs.laws.Flat.{level-send}
 use Rattle.chunk.specs.Written.{Written}
 use Rattle.chunk.proofs.laws.Written.{written-none, written-to, written-two}
 use Rattle.chunk.proofs.flat.flatten_sends.Statement.{statement}
@@ -12,13 +14,13 @@ use Rattle.chunk.specs.Chunk.{sendRow}
 use Rattle.chunk.proofs.flat.flatten_sends.Tie as tie
 
 abbrev Inv-loop : tie.InvT-loop
-Inv-loop values₀ chunk s₀ values s = (s ≤ 8) × Written nan (valuesOf chunk) 128 (2 * s) values₀ values
+Inv-loop levels₀ chunk s₀ levels s = (s ≤ sendLines) × Written nan (levelsOf chunk) sendLevelsFrom (levelSize * s) levels₀ levels
 
 abbrev μ-loop : tie.MeasureT-loop
-μ-loop values₀ chunk s₀ values s = 8 - s
+μ-loop levels₀ chunk s₀ levels s = sendLines - s
 
 loop-holds : tie.Need-loop-holds Inv-loop μ-loop
-loop-holds c = (zero-le, written-none 128 _)
+loop-holds c = (zero-le, written-none sendLevelsFrom _)
 
 mul-level : tie.Need-mul-level Inv-loop μ-loop
 mul-level c = search needs
@@ -49,7 +51,7 @@ loop-again c =
     let s = l .loop .s in
     let h = c .before .before .before .loop-test .taken in
     let level = sendRow chunk s in
-    (omega (arith, h), written-two (128 + 2 * s) (2 * (s + 1)) (level .before .0) (level .now .0) (l .loop .inv .1) refl (omega arith) (omega (arith, start .pre, h)) (sym (value-send chunk s 0 (128 + 2 * s) h (omega arith) (omega arith))) (sym (value-send chunk s 1 (128 + 2 * s + 1) h (omega arith) refl)) (c .put-level .ensures))
+    (omega (arith, h), written-two (sendLevelsFrom + levelSize * s) (levelSize * (s + 1)) (level .before .0) (level .now .0) (l .loop .inv .1) refl (omega arith) (omega (arith, start .pre, h)) (sym (level-send chunk s 0 (sendLevelsFrom + levelSize * s) h (omega arith) (omega arith))) (sym (level-send chunk s 1 (sendLevelsFrom + levelSize * s + 1) h (omega arith) refl)) (c .put-level .ensures))
 
 returns : tie.Need-returns Inv-loop μ-loop
 returns c =

@@ -1,8 +1,10 @@
+-- The sounds' columns: each turn writes one element of each, and loses nothing that was written (`Written`).
 use mathlib.Core.Path.{_≡_, refl, sym}
 use Prim.Native.Nat.{_+_, _-_, _≤_, zero-le}
 use native.Mathlib.Omega.{arith}
 use borrow.Author.Needs.{needs}
-use Rattle.chunk.specs.Flat.{placesOf}
+use Rattle.limits.specs.Limits.{soundLines}
+use Rattle.chunk.specs.Flat.{soundTracksFrom, soundStartsFrom, soundLeftsFrom, placesOf}
 use Rattle.chunk.proofs.laws.Flat.{place-sound-track, place-sound-start, place-sound-left}
 use Rattle.chunk.specs.Written.{Written}
 use Rattle.chunk.proofs.laws.Written.{written-none, written-set, written-next, written-to, written-join}
@@ -11,13 +13,13 @@ use Rattle.chunk.specs.Chunk.{soundRow}
 use Rattle.chunk.proofs.flat.flatten_sounds.Tie as tie
 
 abbrev Inv-loop : tie.InvT-loop
-Inv-loop places₀ chunk k₀ places k = (k ≤ 64) × Written 0 (placesOf chunk) 192 k places₀ places × Written 0 (placesOf chunk) 256 k places₀ places × Written 0 (placesOf chunk) 320 k places₀ places
+Inv-loop places₀ chunk k₀ places k = (k ≤ soundLines) × Written 0 (placesOf chunk) soundTracksFrom k places₀ places × Written 0 (placesOf chunk) soundStartsFrom k places₀ places × Written 0 (placesOf chunk) soundLeftsFrom k places₀ places
 
 abbrev μ-loop : tie.MeasureT-loop
-μ-loop places₀ chunk k₀ places k = 64 - k
+μ-loop places₀ chunk k₀ places k = soundLines - k
 
 loop-holds : tie.Need-loop-holds Inv-loop μ-loop
-loop-holds c = (zero-le, written-none 192 _, written-none 256 _, written-none 320 _)
+loop-holds c = (zero-le, written-none soundTracksFrom _, written-none soundStartsFrom _, written-none soundLeftsFrom _)
 
 mul-sound : tie.Need-mul-sound Inv-loop μ-loop
 mul-sound c = search needs
@@ -71,15 +73,15 @@ loop-again c =
     let begun = sym (place-sound-start chunk k h) in
     let left = sym (place-sound-left chunk k h) in (
       omega (arith, h),
-      written-set (320 + k) (sound .left) (written-set (256 + k) (sound .start) (written-next (192 + k) (sound .track) (inv .1) refl (omega (arith, start .pre, h)) track) begun) left,
-      written-set (320 + k) (sound .left) (written-next (256 + k) (sound .start) (written-set (192 + k) (sound .track) (inv .2) track) refl (omega (arith, start .pre, h)) begun) left,
-      written-next (320 + k) (sound .left) (written-set (256 + k) (sound .start) (written-set (192 + k) (sound .track) (inv .3) track) begun) refl (omega (arith, start .pre, h)) left,
+      written-set (soundLeftsFrom + k) (sound .left) (written-set (soundStartsFrom + k) (sound .start) (written-next (soundTracksFrom + k) (sound .track) (inv .1) refl (omega (arith, start .pre, h)) track) begun) left,
+      written-set (soundLeftsFrom + k) (sound .left) (written-next (soundStartsFrom + k) (sound .start) (written-set (soundTracksFrom + k) (sound .track) (inv .2) track) refl (omega (arith, start .pre, h)) begun) left,
+      written-next (soundLeftsFrom + k) (sound .left) (written-set (soundStartsFrom + k) (sound .start) (written-set (soundTracksFrom + k) (sound .track) (inv .3) track) begun) refl (omega (arith, start .pre, h)) left,
     )
 
 returns : tie.Need-returns Inv-loop μ-loop
 returns c =
     let inv = c .before .loop .inv in
-    let end : c .before .loop .k ≡ 64 = omega (arith, c .loop-test .left, inv .0) in
+    let end : c .before .loop .k ≡ soundLines = omega (arith, c .loop-test .left, inv .0) in
     written-join (written-join (written-to (inv .1) end) (written-to (inv .2) end) refl) (written-to (inv .3) end) refl
 
 pub flatten-sounds-spec : {M : Type 1} → statement M

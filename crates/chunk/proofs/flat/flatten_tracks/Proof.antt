@@ -1,10 +1,12 @@
+-- The tracks' columns: each turn writes one element of two columns and four levels, and loses nothing that was written (`Written`).
 use mathlib.Core.Path.{_≡_, refl, sym, _∙_}
 use Prim.Native.Nat.{_+_, _-_, _*_, _≤_, zero-le}
 use native.Mathlib.Omega.{arith}
 use borrow.Author.Needs.{needs}
 use lib.Ieee.{nan}
-use Rattle.chunk.specs.Flat.{placesOf, valuesOf}
-use Rattle.chunk.proofs.laws.Flat.{place-parent, place-advancing, value-track}
+use Rattle.limits.specs.Limits.{trackPlaces}
+use Rattle.chunk.specs.Flat.{advancingFrom, levelSize, trackLevels, placesOf, levelsOf}
+use Rattle.chunk.proofs.laws.Flat.{place-parent, place-advancing, level-track}
 use Rattle.chunk.specs.Written.{Written}
 use Rattle.chunk.proofs.laws.Written.{written-none, written-set, written-next, written-to, written-two, written-join}
 use Rattle.chunk.proofs.flat.flatten_tracks.Statement.{statement}
@@ -12,13 +14,13 @@ use Rattle.chunk.specs.Chunk.{trackRow}
 use Rattle.chunk.proofs.flat.flatten_tracks.Tie as tie
 
 abbrev Inv-loop : tie.InvT-loop
-Inv-loop places₀ values₀ chunk j₀ places values j = (j ≤ 32) × Written 0 (placesOf chunk) 0 j places₀ places × Written 0 (placesOf chunk) 32 j places₀ places × Written nan (valuesOf chunk) 0 (4 * j) values₀ values
+Inv-loop places₀ levels₀ chunk j₀ places levels j = (j ≤ trackPlaces) × Written 0 (placesOf chunk) 0 j places₀ places × Written 0 (placesOf chunk) advancingFrom j places₀ places × Written nan (levelsOf chunk) 0 (trackLevels * j) levels₀ levels
 
 abbrev μ-loop : tie.MeasureT-loop
-μ-loop places₀ values₀ chunk j₀ places values j = 32 - j
+μ-loop places₀ levels₀ chunk j₀ places levels j = trackPlaces - j
 
 loop-holds : tie.Need-loop-holds Inv-loop μ-loop
-loop-holds c = (zero-le, written-none 0 _, written-none 32 _, written-none 0 _)
+loop-holds c = (zero-le, written-none 0 _, written-none advancingFrom _, written-none 0 _)
 
 mul-track : tie.Need-mul-track Inv-loop μ-loop
 mul-track c = search needs
@@ -76,18 +78,18 @@ loop-again c =
     let track = trackRow chunk j in
     let parent = sym (place-parent chunk j h) in
     let advancing = c .before .before .before .before .flag .ensures ∙ sym (place-advancing chunk j h) in
-    let volume = written-two (4 * j) (4 * j + 2) (track .volume .before .0) (track .volume .now .0) (inv .3) (omega arith) refl (omega (arith, start .pre .1, h)) (sym (value-track chunk j 0 (4 * j) h (omega arith) (omega arith))) (sym (value-track chunk j 1 (4 * j + 1) h (omega arith) refl)) (c .before .before .put-level .ensures) in
-    let fade = written-two (4 * j + 2) (4 * (j + 1)) (track .fade .before .0) (track .fade .now .0) volume (omega arith) (omega arith) (omega (arith, start .pre .1, h)) (sym (value-track chunk j 2 (4 * j + 2) h (omega arith) refl)) (sym (value-track chunk j 3 (4 * j + 2 + 1) h (omega arith) (omega arith))) (c .put-level2 .ensures) in (
+    let volume = written-two (trackLevels * j) (trackLevels * j + levelSize) (track .volume .before .0) (track .volume .now .0) (inv .3) (omega arith) refl (omega (arith, start .pre .1, h)) (sym (level-track chunk j 0 (trackLevels * j) h (omega arith) (omega arith))) (sym (level-track chunk j 1 (trackLevels * j + 1) h (omega arith) refl)) (c .before .before .put-level .ensures) in
+    let fade = written-two (trackLevels * j + levelSize) (trackLevels * (j + 1)) (track .fade .before .0) (track .fade .now .0) volume (omega arith) (omega arith) (omega (arith, start .pre .1, h)) (sym (level-track chunk j 2 (trackLevels * j + levelSize) h (omega arith) refl)) (sym (level-track chunk j 3 (trackLevels * j + levelSize + 1) h (omega arith) (omega arith))) (c .put-level2 .ensures) in (
       omega (arith, h),
-      written-set (32 + j) _ (written-next j (track .parent) (inv .1) (omega arith) (omega (arith, start .pre .0, h)) parent) advancing,
-      written-next (32 + j) _ (written-set j (track .parent) (inv .2) parent) refl (omega (arith, start .pre .0, h)) advancing,
+      written-set (advancingFrom + j) _ (written-next j (track .parent) (inv .1) (omega arith) (omega (arith, start .pre .0, h)) parent) advancing,
+      written-next (advancingFrom + j) _ (written-set j (track .parent) (inv .2) parent) refl (omega (arith, start .pre .0, h)) advancing,
       fade,
     )
 
 returns : tie.Need-returns Inv-loop μ-loop
 returns c =
     let inv = c .before .loop .inv in
-    let end : c .before .loop .j ≡ 32 = omega (arith, c .loop-test .left, inv .0) in
+    let end : c .before .loop .j ≡ trackPlaces = omega (arith, c .loop-test .left, inv .0) in
     (written-join (written-to (inv .1) end) (written-to (inv .2) end) refl, written-to (inv .3) (omega (arith, end)))
 
 pub flatten-tracks-spec : {M : Type 1} → statement M

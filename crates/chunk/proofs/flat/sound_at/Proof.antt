@@ -5,50 +5,50 @@ use Rattle.chunk.proofs.laws.Flat.{sound-from}
 use Rattle.chunk.proofs.flat.sound_at.Statement.{statement}
 use Rattle.chunk.proofs.flat.sound_at.Tie as tie
 
-add-t4 : tie.Need-add-t4
-add-t4 c = search needs
+add-t5 : tie.Need-add-t5
+add-t5 c = search needs
 
-mul-t5 : tie.Need-mul-t5
-mul-t5 c = search needs
+mul-t6 : tie.Need-mul-t6
+mul-t6 c = search needs
 
-element-copy-out-t8 : tie.Need-element-copy-out-t8
-element-copy-out-t8 c = search needs
+element-copy-out-t9 : tie.Need-element-copy-out-t9
+element-copy-out-t9 c = search needs
 
-add-t9 : tie.Need-add-t9
-add-t9 c = search needs
+add-t10 : tie.Need-add-t10
+add-t10 c = search needs
 
-mul-t10 : tie.Need-mul-t10
-mul-t10 c = search needs
+mul-t11 : tie.Need-mul-t11
+mul-t11 c = search needs
 
-element-copy-out-t13 : tie.Need-element-copy-out-t13
-element-copy-out-t13 c = search needs
+element-copy-out-t14 : tie.Need-element-copy-out-t14
+element-copy-out-t14 c = search needs
 
-add-t14 : tie.Need-add-t14
-add-t14 c = search needs
+add-t15 : tie.Need-add-t15
+add-t15 c = search needs
 
-mul-t15 : tie.Need-mul-t15
-mul-t15 c = search needs
+mul-t16 : tie.Need-mul-t16
+mul-t16 c = search needs
 
-element-copy-out-t18 : tie.Need-element-copy-out-t18
-element-copy-out-t18 c = search needs
+element-copy-out-t19 : tie.Need-element-copy-out-t19
+element-copy-out-t19 c = search needs
 
 returns : tie.Need-returns
 unfolding soundFrom
 returns c =
     let start = c .before .before .before in
-    sym (sound-from (start .args .places .now) (start .args .values .now) (start .args .k) (start .pre))
+    sym (sound-from (start .args .places .now) (start .args .levels .now) (start .args .amplitudes .now) (start .args .k) (start .pre))
 
 pub sound-at-spec : {M : Type 1} → statement M
 sound-at-spec =
     tie.close
     (tie.spec
-    add-t4
-    mul-t5
-    element-copy-out-t8
-    add-t9
-    mul-t10
-    element-copy-out-t13
-    add-t14
-    mul-t15
-    element-copy-out-t18
+    add-t5
+    mul-t6
+    element-copy-out-t9
+    add-t10
+    mul-t11
+    element-copy-out-t14
+    add-t15
+    mul-t16
+    element-copy-out-t19
     returns)

@@ -18,20 +18,20 @@ add-level-at c = search needs
 level-at-requires-2 : tie.Need-level-at-requires-2
 level-at-requires-2 c κs = search needs
 
-mul-t6 : tie.Need-mul-t6
-mul-t6 c = search needs
+mul-t7 : tie.Need-mul-t7
+mul-t7 c = search needs
 
-element-copy-out-t7 : tie.Need-element-copy-out-t7
-element-copy-out-t7 c = search needs
+element-copy-out-t8 : tie.Need-element-copy-out-t8
+element-copy-out-t8 c = search needs
 
-add-t10 : tie.Need-add-t10
-add-t10 c = search needs
+add-t11 : tie.Need-add-t11
+add-t11 c = search needs
 
-mul-t11 : tie.Need-mul-t11
-mul-t11 c = search needs
+mul-t12 : tie.Need-mul-t12
+mul-t12 c = search needs
 
-element-copy-out-t14 : tie.Need-element-copy-out-t14
-element-copy-out-t14 c = search needs
+element-copy-out-t15 : tie.Need-element-copy-out-t15
+element-copy-out-t15 c = search needs
 
 returns : tie.Need-returns
 returns c = search (track-read, needs)
@@ -45,9 +45,9 @@ track-at-spec =
     mul-level-at-2
     add-level-at
     level-at-requires-2
-    mul-t6
-    element-copy-out-t7
-    add-t10
-    mul-t11
-    element-copy-out-t14
+    mul-t7
+    element-copy-out-t8
+    add-t11
+    mul-t12
+    element-copy-out-t15
     returns)

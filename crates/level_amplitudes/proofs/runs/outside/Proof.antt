@@ -32,7 +32,7 @@ value-by-requires c κs = search needs
 holds-requires : tie.Need-holds-requires Inv-loop μ-loop
 holds-requires c κs = search needs
 
--- the count is at most i, and i is below 256
+-- the count is at most i, and i is below the longest chunk
 add-count : tie.Need-add-count Inv-loop μ-loop
 add-count c =
     let l = c .before .before .before .before .before .before in

@@ -1,21 +1,22 @@
+-- A loop over the lines of a column: its invariant is `linksOf` of the lines so far, and each arm of the test takes it one line on.
 use mathlib.Core.Path.{_≡_, ap, _∙_}
-use Prim.Native.Nat.{ℕ, _-_, _≤_}
+use Prim.Native.Nat.{ℕ, _+_, _-_, _≤_}
 use native.Mathlib.Omega.{arith}
 use lib.ListN.{length, length-replicate}
 use borrow.Author.Needs.{needs}
-use Rattle.links.specs.Links.{linksOf, columnFrom}
+use Rattle.links.specs.Links.{owners, lines, linksOf, columnFrom}
 use Rattle.links.proofs.laws.Links.{links-none, links-on, links-off, links-length}
 use Rattle.links.proofs.chain.links_of.Statement.{statement}
 use Rattle.links.proofs.chain.links_of.Tie as tie
 
 abbrev Inv-loop : tie.InvT-loop
-Inv-loop places first count links₀ k₀ links k = (k ≤ count) × (length links ≡ 97) × (links ≡ linksOf (columnFrom places first) k)
+Inv-loop column first count links₀ k₀ links k = (k ≤ count) × (length links ≡ owners + lines) × (links ≡ linksOf (columnFrom column first) k)
 
 abbrev μ-loop : tie.MeasureT-loop
-μ-loop places first count links₀ k₀ links k = count - k
+μ-loop column first count links₀ k₀ links k = count - k
 
 loop-holds : tie.Need-loop-holds Inv-loop μ-loop
-loop-holds c = (search needs, length-replicate {A = ℕ} 97 0, links-none (columnFrom (c .args .places .now) (c .args .first)))
+loop-holds c = (search needs, length-replicate {A = ℕ} (owners + lines) 0, links-none (columnFrom (c .args .column .now) (c .args .first)))
 
 add-owner : tie.Need-add-owner Inv-loop μ-loop
 add-owner c = search needs
@@ -23,8 +24,11 @@ add-owner c = search needs
 mul-owner : tie.Need-mul-owner Inv-loop μ-loop
 mul-owner c = search needs
 
-element-copy-out-owner : tie.Need-element-copy-out-owner Inv-loop μ-loop
-element-copy-out-owner c = search needs
+shared-slice-read-owner : tie.Need-shared-slice-read-owner Inv-loop μ-loop
+shared-slice-read-owner c = search needs
+
+add-at : tie.Need-add-at Inv-loop μ-loop
+add-at c = search needs
 
 add-k : tie.Need-add-k Inv-loop μ-loop
 add-k c = search needs
@@ -34,9 +38,6 @@ mul-links c = search needs
 
 array-read-links : tie.Need-array-read-links Inv-loop μ-loop
 array-read-links c = search needs
-
-add-links : tie.Need-add-links Inv-loop μ-loop
-add-links c = search needs
 
 mul-links-2 : tie.Need-mul-links-2 Inv-loop μ-loop
 mul-links-2 c = search needs
@@ -57,7 +58,7 @@ loop-again : tie.Need-loop-again Inv-loop μ-loop
 loop-again c =
     let l = c .before .before .before in
     let args = l .before .args in
-    let owner = columnFrom (args .places .now) (args .first) in
+    let owner = columnFrom (args .column .now) (args .first) in
     let e = links-on owner (l .loop .k) (omega (arith, c .if1 .taken)) (l .loop .inv .2) in
     (omega (arith, c .before .before .loop-test .taken), ap length e ∙ links-length owner _, e)
 
@@ -68,14 +69,14 @@ loop-again-2 : tie.Need-loop-again-2 Inv-loop μ-loop
 loop-again-2 c =
     let l = c .before .before .before in
     let args = l .before .args in
-    (omega (arith, c .before .before .loop-test .taken), l .loop .inv .1, links-off (columnFrom (args .places .now) (args .first)) (l .loop .k) (omega (arith, c .if1 .left)) (l .loop .inv .2))
+    (omega (arith, c .before .before .loop-test .taken), l .loop .inv .1, links-off (columnFrom (args .column .now) (args .first)) (l .loop .k) (omega (arith, c .if1 .left)) (l .loop .inv .2))
 
 returns : tie.Need-returns Inv-loop μ-loop
 returns c =
     let l = c .before in
     let args = l .before .args in
     let done : l .loop .k ≡ args .count = omega (arith, c .loop-test .left, l .loop .inv .0) in
-    l .loop .inv .2 ∙ ap (linksOf (columnFrom (args .places .now) (args .first))) done
+    l .loop .inv .2 ∙ ap (linksOf (columnFrom (args .column .now) (args .first))) done
 
 pub links-of-spec : {M : Type 1} → statement M
 links-of-spec =
@@ -86,11 +87,11 @@ links-of-spec =
     loop-holds
     add-owner
     mul-owner
-    element-copy-out-owner
+    shared-slice-read-owner
+    add-at
     add-k
     mul-links
     array-read-links
-    add-links
     mul-links-2
     array-write-links
     mul-links-3

@@ -7,6 +7,7 @@ use native.Mathlib.Numerals.{add-one-le}
 use lib.Dec.{lit<}
 use lib.ListN.{getD, replicate}
 use lib.Ieee.{ofInt, ofBits}
+use Rattle.limits.specs.Limits.{routeLines}
 use Rattle.laws.specs.Loop.{changed}
 use Rattle.laws.proofs.laws.Loop.{changed-zero}
 use Rattle.parameter.specs.declared.parameter.Parameter.{Parameter}
@@ -24,7 +25,7 @@ abbrev made : List RouteLine → List Parameter → ℕ → ChunkRoute → Chunk
 made lines routes r x = chunkRoute (getD lines r absentRouteLine) (parameterOf routes r)
 
 abbrev Inv-loop : tie.InvT-loop
-Inv-loop count table lines routes chunk₀ r₀ chunk r = (r ≤ count) × (count ≤ 64) × (chunk ≡ changed (made lines routes) r (replicate 64 emptyRouteRow))
+Inv-loop count table lines routes chunk₀ r₀ chunk r = (r ≤ count) × (count ≤ routeLines) × (chunk ≡ changed (made lines routes) r (replicate routeLines emptyRouteRow))
 
 abbrev μ-loop : tie.MeasureT-loop
 μ-loop count table lines routes chunk₀ r₀ chunk r = count - r
@@ -68,14 +69,14 @@ loop-again c =
     let start = l .before in (
       add-one-le (c .before .before .before .loop-test .taken),
       l .loop .inv .1,
-      turned (made (start .args .t1) (start .args .t3)) (replicate 64 emptyRouteRow) absentRouteRow (l .loop .r) (c .chunk-route .ensures) (l .loop .inv .2),
+      turned (made (start .args .t1) (start .args .t3)) (replicate routeLines emptyRouteRow) absentRouteRow (l .loop .r) (c .chunk-route .ensures) (l .loop .inv .2),
     )
 
 returns : tie.Need-returns Inv-loop μ-loop
 unfolding chunkRoutes
 returns c =
     let start = c .before .before in
-    ended (made (start .args .t1) (start .args .t3)) (replicate 64 emptyRouteRow) (c .before .loop .inv .0) (c .loop-test .left) (c .before .loop .inv .2)
+    ended (made (start .args .t1) (start .args .t3)) (replicate routeLines emptyRouteRow) (c .before .loop .inv .0) (c .loop-test .left) (c .before .loop .inv .2)
 
 pub chunk-routes-spec : {M : Type 1} → statement M
 chunk-routes-spec =

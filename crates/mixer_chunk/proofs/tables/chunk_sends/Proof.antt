@@ -6,6 +6,7 @@ use native.Mathlib.Nat.{lt-of-lt-of-le}
 use native.Mathlib.Numerals.{add-one-le}
 use lib.Dec.{lit<}
 use lib.ListN.{replicate}
+use Rattle.limits.specs.Limits.{sendLines}
 use Rattle.laws.specs.Loop.{changed}
 use Rattle.laws.proofs.laws.Loop.{changed-zero}
 use Rattle.parameter.specs.declared.parameter.Parameter.{Parameter}
@@ -21,7 +22,7 @@ abbrev made : List Parameter → ℕ → Level → Level
 made sends i x = levelOf (parameterOf sends i)
 
 abbrev Inv-loop : tie.InvT-loop
-Inv-loop count sends chunk₀ i₀ chunk i = (i ≤ count) × (count ≤ 8) × (chunk ≡ changed (made sends) i (replicate 8 emptyLevel))
+Inv-loop count sends chunk₀ i₀ chunk i = (i ≤ count) × (count ≤ sendLines) × (chunk ≡ changed (made sends) i (replicate sendLines emptyLevel))
 
 abbrev μ-loop : tie.MeasureT-loop
 μ-loop count sends chunk₀ i₀ chunk i = count - i
@@ -30,7 +31,7 @@ empty-level-requires : tie.Need-empty-level-requires Inv-loop μ-loop
 empty-level-requires c κs = tt
 
 loop-holds : tie.Need-loop-holds Inv-loop μ-loop
-loop-holds c = (zero-le, c .before .pre, ap (replicate 8) (c .empty-level .ensures) ∙ sym (changed-zero _ _))
+loop-holds c = (zero-le, c .before .pre, ap (replicate sendLines) (c .empty-level .ensures) ∙ sym (changed-zero _ _))
 
 mul-send : tie.Need-mul-send Inv-loop μ-loop
 mul-send c = record { fits = scaled _ (c .loop-test .taken) (c .before .loop .inv .1) (lit< tt) }
@@ -59,14 +60,14 @@ loop-again c =
     let start = l .before .before in (
       add-one-le (c .before .before .loop-test .taken),
       l .loop .inv .1,
-      turned (made (start .args .t2)) (replicate 8 emptyLevel) absentLevel (l .loop .i) (c .level-of .ensures) (l .loop .inv .2),
+      turned (made (start .args .t2)) (replicate sendLines emptyLevel) absentLevel (l .loop .i) (c .level-of .ensures) (l .loop .inv .2),
     )
 
 returns : tie.Need-returns Inv-loop μ-loop
 unfolding chunkSends
 returns c =
     let start = c .before .before .before in
-    ended (made (start .args .t2)) (replicate 8 emptyLevel) (c .before .loop .inv .0) (c .loop-test .left) (c .before .loop .inv .2)
+    ended (made (start .args .t2)) (replicate sendLines emptyLevel) (c .before .loop .inv .0) (c .loop-test .left) (c .before .loop .inv .2)
 
 pub chunk-sends-spec : {M : Type 1} → statement M
 chunk-sends-spec =

@@ -6,6 +6,7 @@ use native.Mathlib.Nat.{lt-of-lt-of-le}
 use native.Mathlib.Numerals.{add-one-le}
 use lib.Dec.{lit<}
 use lib.ListN.{getD, replicate}
+use Rattle.limits.specs.Limits.{soundLines}
 use Rattle.laws.specs.Loop.{changed}
 use Rattle.laws.proofs.laws.Loop.{changed-zero}
 use Rattle.scene.specs.declared.scene.SoundLine.{SoundLine}
@@ -21,7 +22,7 @@ abbrev made : List SoundLine → List ℕ → ℕ → ChunkSound → ChunkSound
 made lines played k x = chunkSound (getD lines k absentSoundLine) (getD played k 0)
 
 abbrev Inv-loop : tie.InvT-loop
-Inv-loop count lines played chunk₀ k₀ chunk k = (k ≤ count) × (count ≤ 64) × (chunk ≡ changed (made lines played) k (replicate 64 emptySoundRow))
+Inv-loop count lines played chunk₀ k₀ chunk k = (k ≤ count) × (count ≤ soundLines) × (chunk ≡ changed (made lines played) k (replicate soundLines emptySoundRow))
 
 abbrev μ-loop : tie.MeasureT-loop
 μ-loop count lines played chunk₀ k₀ chunk k = count - k
@@ -66,14 +67,14 @@ loop-again c =
     let start = l .before in (
       add-one-le (c .before .before .loop-test .taken),
       l .loop .inv .1,
-      turned (made (start .args .t1) (start .args .t3)) (replicate 64 emptySoundRow) absentSoundRow (l .loop .k) (c .chunk-sound .ensures) (l .loop .inv .2),
+      turned (made (start .args .t1) (start .args .t3)) (replicate soundLines emptySoundRow) absentSoundRow (l .loop .k) (c .chunk-sound .ensures) (l .loop .inv .2),
     )
 
 returns : tie.Need-returns Inv-loop μ-loop
 unfolding chunkSounds
 returns c =
     let start = c .before .before in
-    ended (made (start .args .t1) (start .args .t3)) (replicate 64 emptySoundRow) (c .before .loop .inv .0) (c .loop-test .left) (c .before .loop .inv .2)
+    ended (made (start .args .t1) (start .args .t3)) (replicate soundLines emptySoundRow) (c .before .loop .inv .0) (c .loop-test .left) (c .before .loop .inv .2)
 
 pub chunk-sounds-spec : {M : Type 1} → statement M
 chunk-sounds-spec =

@@ -7,6 +7,7 @@ use native.Mathlib.Numerals.{add-one-le}
 use lib.Dec.{lit<}
 use lib.ListN.{getD, replicate}
 use mathlib.Core.Bool.{false}
+use Rattle.limits.specs.Limits.{trackPlaces}
 use Rattle.laws.specs.Loop.{changed}
 use Rattle.laws.proofs.laws.Loop.{changed-zero}
 use Rattle.scene.specs.declared.scene.TrackLine.{TrackLine}
@@ -28,7 +29,7 @@ abbrev empty : Level → Level → ChunkTrack
 empty volume fade = record { parent = 0; advancing = false; volume = volume; fade = fade }
 
 abbrev Inv-loop : tie.InvT-loop
-Inv-loop count lines tracks chunk₀ t₀ chunk t = (t ≤ count) × (count ≤ 32) × (chunk ≡ changed (made lines tracks) t (replicate 32 emptyTrackRow))
+Inv-loop count lines tracks chunk₀ t₀ chunk t = (t ≤ count) × (count ≤ trackPlaces) × (chunk ≡ changed (made lines tracks) t (replicate trackPlaces emptyTrackRow))
 
 abbrev μ-loop : tie.MeasureT-loop
 μ-loop count lines tracks chunk₀ t₀ chunk t = count - t
@@ -41,7 +42,7 @@ empty-level-requires-2 c κs = tt
 
 loop-holds : tie.Need-loop-holds Inv-loop μ-loop
 unfolding emptyTrackRow
-loop-holds c = (zero-le, c .before .before .pre, ap (replicate 32) (ap₂ empty (c .before .empty-level .ensures) (c .empty-level2 .ensures)) ∙ sym (changed-zero _ _))
+loop-holds c = (zero-le, c .before .before .pre, ap (replicate trackPlaces) (ap₂ empty (c .before .empty-level .ensures) (c .empty-level2 .ensures)) ∙ sym (changed-zero _ _))
 
 mul-line : tie.Need-mul-line Inv-loop μ-loop
 mul-line c = record { fits = scaled _ (c .loop-test .taken) (c .before .loop .inv .1) (lit< tt) }
@@ -76,14 +77,14 @@ loop-again c =
     let start = l .before .before .before in (
       add-one-le (c .before .before .before .loop-test .taken),
       l .loop .inv .1,
-      turned (made (start .args .t1) (start .args .t3)) (replicate 32 emptyTrackRow) absentTrackRow (l .loop .t) (c .chunk-track .ensures) (l .loop .inv .2),
+      turned (made (start .args .t1) (start .args .t3)) (replicate trackPlaces emptyTrackRow) absentTrackRow (l .loop .t) (c .chunk-track .ensures) (l .loop .inv .2),
     )
 
 returns : tie.Need-returns Inv-loop μ-loop
 unfolding chunkTracks
 returns c =
     let start = c .before .before .before .before in
-    ended (made (start .args .t1) (start .args .t3)) (replicate 32 emptyTrackRow) (c .before .loop .inv .0) (c .loop-test .left) (c .before .loop .inv .2)
+    ended (made (start .args .t1) (start .args .t3)) (replicate trackPlaces emptyTrackRow) (c .before .loop .inv .0) (c .loop-test .left) (c .before .loop .inv .2)
 
 pub chunk-tracks-spec : {M : Type 1} → statement M
 chunk-tracks-spec =

@@ -15,19 +15,19 @@ returns c =
     let text = same-text (args .text .now) (printed-refusal (args .file .now) (args .raw .now) 12 (λ e. omega arith) (many-samples (args .file .now) (args .raw .now) (c .before .before .if1 .taken))) (c .put-refusal .ensures) in
     (text .0, (text .1, begun-within (printed (args .file .now) (args .raw .now)) (args .text .now) text))
 
-slice-aggregate-print-files : tie.Need-slice-aggregate-print-files
-slice-aggregate-print-files c = search needs
+slice-aggregate-put-files : tie.Need-slice-aggregate-put-files
+slice-aggregate-put-files c = search needs
 
-slice-aggregate-print-files-2 : tie.Need-slice-aggregate-print-files-2
-slice-aggregate-print-files-2 c = search needs
+slice-aggregate-put-files-2 : tie.Need-slice-aggregate-put-files-2
+slice-aggregate-put-files-2 c = search needs
 
-print-files-requires : tie.Need-print-files-requires
-print-files-requires c κs = search needs
+put-files-requires : tie.Need-put-files-requires
+put-files-requires c κs = search needs
 
 returns-2 : tie.Need-returns-2
 returns-2 c =
     let args = c .before .before .before .before .before .before .before .before .before .args in
-    let text = c .before .before .print-files .ensures in
+    let text = c .before .before .put-files .ensures in
     (text .0, (text .1, begun-within (printed (args .file .now) (args .raw .now)) (args .text .now) text))
 
 pub render-text-spec : {M : Type 1} → statement M
@@ -36,7 +36,7 @@ render-text-spec =
     (tie.spec
     put-refusal-requires
     returns
-    slice-aggregate-print-files
-    slice-aggregate-print-files-2
-    print-files-requires
+    slice-aggregate-put-files
+    slice-aggregate-put-files-2
+    put-files-requires
     returns-2)

@@ -1,19 +1,19 @@
 -- `read_samples` meets its contract: i samples stand at the start. Assumes nothing.
 use mathlib.Core.Path.{_≡_, refl, sym, ap, _∙_}
 use mathlib.Core.List.{[], _∷_}
-use Prim.Native.Nat.{ℕ, _/_, _-_, _≤_}
+use Prim.Native.Nat.{ℕ, _/_, _-_, _≤_, _*_}
 use lib.ListN.{length}
 use lib.Ieee.{Float, binary32, ofBits}
 use borrow.Author.Needs.{needs}
 use Rattle.laws.specs.Pieces.{pieces, begun}
 use Rattle.laws.proofs.laws.Pieces.{begun-zero, begun-next, begun-end, length-elements, set-put}
 use Rattle.float_bits.specs.Bits.{wordFrom}
-use Rattle.render_files.specs.Program.{wordAt, samplesOf}
+use Rattle.render_files.specs.Program.{samplesOf}
 use Rattle.render_files.proofs.samples.read_samples.Statement.{statement}
 use Rattle.render_files.proofs.samples.read_samples.Tie as tie
 
 abbrev Inv-loop : tie.InvT-loop
-Inv-loop raw samples₀ i₀ samples i = (i ≤ length samples₀) × (length samples ≡ length samples₀) × (samples ≡ begun (pieces (λ j. ofBits binary32 (wordAt raw j) ∷ []) i) samples₀)
+Inv-loop raw samples₀ i₀ samples i = (i ≤ length samples₀) × (length samples ≡ length samples₀) × (samples ≡ begun (pieces (λ j. ofBits binary32 (wordFrom raw (4 * j)) ∷ []) i) samples₀)
 
 abbrev μ-loop : tie.MeasureT-loop
 μ-loop raw samples₀ i₀ samples i = length samples₀ - i
@@ -43,11 +43,11 @@ loop-less : tie.Need-loop-less Inv-loop μ-loop
 loop-less c = search needs
 
 loop-again : tie.Need-loop-again Inv-loop μ-loop
-unfolding wordAt wordFrom
+unfolding wordFrom
 loop-again c =
     let l = c .before .before .before .loop in
     let args = c .before .before .before .before .before .before .args in
-    let f : ℕ → Float = λ j. ofBits binary32 (wordAt (args .raw .now) j) in
+    let f : ℕ → Float = λ j. ofBits binary32 (wordFrom (args .raw .now) (4 * j)) in
     (search needs, search needs, begun-next (λ j. f j ∷ []) (l .i) (args .samples .now) (l .inv .2) (sym (length-elements f (l .i))) (ap (λ (x : Float). x ∷ []) (c .f32-from-bits .ensures ∙ ap (ofBits binary32) (c .before .word .ensures))) (set-put (l .samples) (l .i) (c .f32-from-bits .result) (search needs)))
 
 same-length : tie.Need-same-length Inv-loop μ-loop
@@ -58,7 +58,7 @@ unfolding samplesOf
 returns c =
     let l = c .before .loop in
     let args = c .before .before .before .before .args in
-    let f : ℕ → Float = λ j. ofBits binary32 (wordAt (args .raw .now) j) in
+    let f : ℕ → Float = λ j. ofBits binary32 (wordFrom (args .raw .now) (4 * j)) in
     begun-end (λ j. f j ∷ []) (args .samples .now) (search needs) (length-elements f (length (args .raw .now) / 4) ∙ sym (c .before .before .before .before .pre)) (l .inv .2)
 
 pub read-samples-spec : {M : Type 1} → statement M

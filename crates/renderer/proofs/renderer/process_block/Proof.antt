@@ -1,3 +1,4 @@
+-- A block: a loop over its chunks, each of which writes its part of the output; the invariant has the mixer so far and the samples so far.
 use mathlib.Core.Path.{_≡_, refl, sym, ap, _∙_, subst}
 use Prim.Native.Nat.{_+_, _-_, _*_, _≤_}
 use native.Mathlib.Nat.{le-trans, le-of-eq, le-of-lt}

@@ -1,3 +1,4 @@
+-- A chunk: the mixer moves, its tables are mixed, and what the buffer stands for is written. Each call's facts are handed to the next.
 use mathlib.Core.Path.{sym, ap, ap₂, _∙_}
 use Prim.Native.Nat.{suc, _*_}
 use native.Mathlib.Omega.{arith}

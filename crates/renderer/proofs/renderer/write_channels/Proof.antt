@@ -1,3 +1,4 @@
+-- A loop over the frames of a mix: each is written to its channels, behind those before it.
 use mathlib.Core.Path.{_≡_, refl, sym, ap, _∙_}
 use Prim.Native.Nat.{_-_, _≤_}
 use native.Mathlib.Nat.{le-trans, le-of-eq, lt-of-le-of-lt, mul-le-mul}
@@ -5,6 +6,7 @@ use native.Mathlib.Omega.{arith}
 use lib.Dec.{lit<}
 use lib.ListN.{length}
 use borrow.Author.Needs.{needs}
+use Rattle.frame.specs.Layout.{scratch, frameAt}
 use Rattle.laws.specs.Pieces.{pieces, begun}
 use Rattle.laws.proofs.laws.Pieces.{begun-zero, begun-next, begun-end}
 use Rattle.frame.specs.Frame.{clamped}
@@ -14,7 +16,7 @@ use Rattle.renderer.proofs.renderer.write_channels.Statement.{statement
 use Rattle.renderer.proofs.renderer.write_channels.Tie as tie
 
 abbrev Inv-loop : tie.InvT-loop
-Inv-loop out₀ channels mix frames i₀ out i = (i ≤ frames) × (length out ≡ length out₀) × (out ≡ begun (pieces (framePiece channels mix) i) out₀)
+Inv-loop out₀ channels mix frames i₀ out i = (i ≤ frames) × (length out ≡ length out₀) × (out ≡ begun (pieces (framePiece channels (frameAt (scratch 0 frames) mix)) i) out₀)
 
 abbrev μ-loop : tie.MeasureT-loop
 μ-loop out₀ channels mix frames i₀ out i = frames - i
@@ -57,8 +59,8 @@ loop-again c =
     let is = c .before .before .before .before .clamped .ensures ∙ ap clamped (c .before .before .before .before .before .frame-at .ensures) in (
       omega (arith, h),
       c .before .before .write-frame .kept .0 ∙ inv .1,
-      begun-next (framePiece (args .channels) (args .mix .now)) (l .loop .i) (args .out .now) (inv .2)
-          (sym (length-frames (args .channels) (args .mix .now) (l .loop .i)))
+      begun-next (framePiece (args .channels) (frameAt (scratch 0 (args .frames)) (args .mix .now))) (l .loop .i) (args .out .now) (inv .2)
+          (sym (length-frames (args .channels) (frameAt (scratch 0 (args .frames)) (args .mix .now)) (l .loop .i)))
           (ap (channelsOf (args .channels)) is) (c .before .before .write-frame .ensures),
     )
 
@@ -70,8 +72,8 @@ returns c =
     let l = c .before in
     let start = l .before .before .before in
     let args = start .args in
-    begun-end (framePiece (args .channels) (args .mix .now)) (args .out .now) (omega (arith, c .loop-test .left, l .loop .inv .0))
-    (length-frames (args .channels) (args .mix .now) (args .frames) ∙ sym (start .pre .0)) (l .loop .inv .2)
+    begun-end (framePiece (args .channels) (frameAt (scratch 0 (args .frames)) (args .mix .now))) (args .out .now) (omega (arith, c .loop-test .left, l .loop .inv .0))
+    (length-frames (args .channels) (frameAt (scratch 0 (args .frames)) (args .mix .now)) (args .frames) ∙ sym (start .pre .0)) (l .loop .inv .2)
 
 pub write-channels-spec : {M : Type 1} → statement M
 write-channels-spec =

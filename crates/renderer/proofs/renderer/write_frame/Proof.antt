@@ -1,3 +1,4 @@
+-- A loop over the channels of a frame: what is written so far is put at its place.
 use mathlib.Core.Path.{_≡_, refl, ap, _∙_}
 use mathlib.Core.List.{[], _∷_}
 use Prim.Native.Nat.{_-_, _≤_}

@@ -2,6 +2,7 @@
 use mathlib.Core.Path.{sym, ap, _∙_}
 use Prim.Native.Nat.{ℕ, _*_}
 use borrow.Author.Needs.{needs}
+use Rattle.frame.specs.Layout.{scratch, frameAt}
 use Rattle.laws.specs.Pieces.{pieces}
 use Rattle.renderer.proofs.laws.Lengths.{framePiece}
 use Rattle.renderer.proofs.renderer.write_frames.Statement.{statement}
@@ -21,7 +22,7 @@ same-length c = search needs
 returns : tie.Need-returns
 returns c =
     let start = c .before .before .before .before .before .before .before in
-    c .before .before .write-stereo .ensures ∙ ap (λ (n : ℕ). pieces (framePiece n (start .args .mix .now)) (start .args .frames)) (sym (c .before .before .before .before .if1 .taken))
+    c .before .before .write-stereo .ensures ∙ ap (λ (n : ℕ). pieces (framePiece n (frameAt (scratch 0 (start .args .frames)) (start .args .mix .now))) (start .args .frames)) (sym (c .before .before .before .before .if1 .taken))
 
 same-length-2 : tie.Need-same-length-2
 same-length-2 c = search needs

@@ -4,6 +4,7 @@ use Prim.Native.Nat.{ℕ, _+_, _-_, _*_, _≤_, _<_}
 use native.Mathlib.Omega.{arith}
 use lib.ListN.{length, set, length-set}
 use borrow.Author.Needs.{needs}
+use Rattle.frame.specs.Layout.{scratch, frameAt}
 use Rattle.laws.specs.Pieces.{pieces, begun}
 use Rattle.laws.proofs.laws.Pieces.{begun-zero, begun-next, begun-end}
 use Rattle.frame.specs.Frame.{clamped}
@@ -14,7 +15,7 @@ use Rattle.renderer.proofs.renderer.write_stereo.Statement.{statement}
 use Rattle.renderer.proofs.renderer.write_stereo.Tie as tie
 
 abbrev Inv-loop : tie.InvT-loop
-Inv-loop out₀ mix frames i₀ out i = (i ≤ frames) × (length out ≡ length out₀) × (out ≡ begun (pieces (framePiece 2 mix) i) out₀)
+Inv-loop out₀ mix frames i₀ out i = (i ≤ frames) × (length out ≡ length out₀) × (out ≡ begun (pieces (framePiece 2 (frameAt (scratch 0 frames) mix)) i) out₀)
 
 abbrev μ-loop : tie.MeasureT-loop
 μ-loop out₀ mix frames i₀ out i = frames - i
@@ -68,8 +69,8 @@ loop-again c =
     let is = c .clamped .ensures ∙ ap clamped (c .before .frame-at .ensures) in (
       omega (arith, h),
       length-set (set (l .loop .out) (2 * l .loop .i) (c .clamped .result .left)) (2 * l .loop .i + 1) (c .clamped .result .right) ∙ length-set (l .loop .out) (2 * l .loop .i) (c .clamped .result .left) ∙ inv .1,
-      begun-next (framePiece 2 (args .mix .now)) (l .loop .i) (args .out .now) (inv .2)
-          (sym (length-frames 2 (args .mix .now) (l .loop .i)))
+      begun-next (framePiece 2 (frameAt (scratch 0 (args .frames)) (args .mix .now))) (l .loop .i) (args .out .now) (inv .2)
+          (sym (length-frames 2 (frameAt (scratch 0 (args .frames)) (args .mix .now)) (l .loop .i)))
           (ap (channelsOf 2) is) (stereo-put (l .loop .out) (l .loop .i) (c .clamped .result) (omega (arith, h, inv .1, start .pre .0))),
     )
 
@@ -81,8 +82,8 @@ returns c =
     let l = c .before in
     let start = l .before .before .before in
     let args = start .args in
-    begun-end (framePiece 2 (args .mix .now)) (args .out .now) (omega (arith, c .loop-test .left, l .loop .inv .0))
-    (length-frames 2 (args .mix .now) (args .frames) ∙ sym (start .pre .0)) (l .loop .inv .2)
+    begun-end (framePiece 2 (frameAt (scratch 0 (args .frames)) (args .mix .now))) (args .out .now) (omega (arith, c .loop-test .left, l .loop .inv .0))
+    (length-frames 2 (frameAt (scratch 0 (args .frames)) (args .mix .now)) (args .frames) ∙ sym (start .pre .0)) (l .loop .inv .2)
 
 pub write-stereo-spec : {M : Type 1} → statement M
 write-stereo-spec =

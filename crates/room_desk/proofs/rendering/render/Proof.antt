@@ -23,7 +23,7 @@ read-scene-requires c κs = search needs
 returns : tie.Need-returns
 returns c =
     let args = c .before .before .before .before .before .before .args in
-    let number = answered-number (args .scene .now) (args .samples .now) (length (args .output .now)) (c .before .before .read-scene .ensures) in
+    let number = answered-number (args .scene .now) _ (c .before .before .read-scene .ensures) in
     let unwritten : args .output .now ≡ outputOf (args .scene .now) (args .samples .now) (args .output .now) = output-refused (args .scene .now) (args .samples .now) (args .output .now) (λ e. omega (arith, c .if1 .taken, number, e)) in
     (number, (unwritten, λ file recordings there chosen others fit e f same. absurd (omega (arith, c .if1 .taken, number, e))))
 
@@ -32,10 +32,10 @@ render-scene-requires c κs =
     let args = c .before .before .before .before .before .before .before .before .args in
     let read = c .before .before .before .before .read-scene in
     let n = length (args .output .now) in
-    let number = answered-number (args .scene .now) (args .samples .now) n (read .ensures) in
+    let number = answered-number (args .scene .now) _ (read .ensures) in
     let passes : read .result .number ≡ 0 = omega (arith, c .before .before .if1 .left) in
     let accepted = sym number ∙ passes in
-    let scene = answered-scene (args .scene .now) (args .samples .now) n (read .ensures) passes in (
+    let scene = answered-scene (args .scene .now) _ (read .ensures) passes in (
       subst SceneOk (sym scene) (accepted-ok (args .scene .now) (args .samples .now) n accepted),
       (
         subst (λ (s : Scene). SamplesOk s (args .samples .now)) (sym scene) (accepted-samples (args .scene .now) (args .samples .now) n accepted),
@@ -52,10 +52,10 @@ returns-2 c =
     let args = start .args in
     let read = c .before .before .before .before .before .before .before .read-scene in
     let n = length (args .output .now) in
-    let number = answered-number (args .scene .now) (args .samples .now) n (read .ensures) in
+    let number = answered-number (args .scene .now) _ (read .ensures) in
     let passes : read .result .number ≡ 0 = omega (arith, c .before .before .before .before .before .if1 .left) in
     let accepted = sym number ∙ passes in
-    let scene = answered-scene (args .scene .now) (args .samples .now) n (read .ensures) passes in
+    let scene = answered-scene (args .scene .now) _ (read .ensures) passes in
     let fit : AreF32 (args .samples .now) = λ i h. c .before .before .before .before .before .before .before .before .before .shared-slice-known2 .given i in
     let written = c .before .before .render-scene .ensures ∙ ap (λ (s : Scene). rendered s (args .samples .now)) scene ∙ sym (output-accepted (args .scene .now) (args .samples .now) (args .output .now) accepted) in (
       sym accepted,

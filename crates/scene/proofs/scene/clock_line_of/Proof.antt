@@ -16,12 +16,9 @@ speed-of-requires c κs = search needs
 at-requires-3 : tie.Need-at-requires-3
 at-requires-3 c κs = search needs
 
-add-t7 : tie.Need-add-t7
-add-t7 c = search needs
-
 returns : tie.Need-returns
 returns c = search (clock-is, needs)
 
 pub clock-line-of-spec : {M : Type 1} → statement M
 clock-line-of-spec =
-    tie.close (tie.spec at-requires at-requires-2 speed-of-requires at-requires-3 add-t7 returns)
+    tie.close (tie.spec at-requires at-requires-2 speed-of-requires at-requires-3 returns)

@@ -4,23 +4,25 @@ use Prim.Native.Nat.{_≤_, _-_}
 use lib.ListN.{take}
 use borrow.Author.Needs.{needs}
 use native.Mathlib.Omega.{arith}
-use Rattle.scene.specs.Scene.{filled, clockOf, emptyClockLine}
+use Rattle.limits.specs.Limits.{clockLines}
+use Rattle.scene_tables.specs.Tables.{tableAt, width, clocks}
+use Rattle.scene.specs.Scene.{filled, clockOf}
 use Rattle.scene_questions.specs.Places.{rowsIn}
 use Rattle.scene.proofs.laws.Typed.{fill-start, fill-next, fill-done}
 use Rattle.scene.proofs.scene.clock_lines.Statement.{statement}
 use Rattle.scene.proofs.scene.clock_lines.Tie as tie
 
 abbrev Inv-loop : tie.InvT-loop
-Inv-loop values start lines out₀ i₀ out i = (i ≤ lines) × (out ≡ filled 8 emptyClockLine clockOf (take i (rowsIn values start 3 lines)))
+Inv-loop values start lines out₀ i₀ out i = (i ≤ lines) × (out ≡ filled clockLines clockOf (take i (rowsIn values start (width (tableAt clocks)) lines)))
 
 abbrev μ-loop : tie.MeasureT-loop
 μ-loop values start lines out₀ i₀ out i = lines - i
 
-no-clock-requires : tie.Need-no-clock-requires Inv-loop μ-loop
-no-clock-requires c κs = search needs
+clock-line-of-requires : tie.Need-clock-line-of-requires Inv-loop μ-loop
+clock-line-of-requires c κs = search needs
 
 loop-holds : tie.Need-loop-holds Inv-loop μ-loop
-loop-holds c = (omega arith, fill-start 8 emptyClockLine clockOf (c .no-clock .result) (c .no-clock .ensures))
+loop-holds c = (omega arith, fill-start clockLines clockOf (c .before .before .args .values .now) (width (tableAt clocks)) (c .clock-line-of .result) (c .clock-line-of .ensures))
 
 mul-clock-line-of : tie.Need-mul-clock-line-of Inv-loop μ-loop
 mul-clock-line-of c = omega arith
@@ -28,8 +30,8 @@ mul-clock-line-of c = omega arith
 add-clock-line-of : tie.Need-add-clock-line-of Inv-loop μ-loop
 add-clock-line-of c = omega arith
 
-clock-line-of-requires : tie.Need-clock-line-of-requires Inv-loop μ-loop
-clock-line-of-requires c κs = search needs
+clock-line-of-requires-2 : tie.Need-clock-line-of-requires-2 Inv-loop μ-loop
+clock-line-of-requires-2 c κs = search needs
 
 mul-out : tie.Need-mul-out Inv-loop μ-loop
 mul-out c = omega arith
@@ -55,11 +57,11 @@ clock-lines-spec =
     (tie.spec
     Inv-loop
     μ-loop
-    no-clock-requires
+    clock-line-of-requires
     loop-holds
     mul-clock-line-of
     add-clock-line-of
-    clock-line-of-requires
+    clock-line-of-requires-2
     mul-out
     array-set-from-out
     add-i

@@ -13,14 +13,8 @@ cast-n c = search needs
 returns : tie.Need-returns
 returns c = search (easing-linear, needs)
 
-add-if2 : tie.Need-add-if2
-add-if2 c = search needs
-
 returns-2 : tie.Need-returns-2
 returns-2 c = search (easing-in, needs)
-
-add-if3 : tie.Need-add-if3
-add-if3 c = search needs
 
 returns-3 : tie.Need-returns-3
 returns-3 c = search (easing-out, needs)
@@ -31,4 +25,4 @@ returns-4 c = search (easing-in-out, needs)
 pub easing-of-spec : {M : Type 1} → statement M
 easing-of-spec =
     tie.close
-    (tie.spec natural-of-requires cast-n returns add-if2 returns-2 add-if3 returns-3 returns-4)
+    (tie.spec natural-of-requires cast-n returns returns-2 returns-3 returns-4)

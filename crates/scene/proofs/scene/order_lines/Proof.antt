@@ -4,23 +4,25 @@ use Prim.Native.Nat.{_≤_, _-_}
 use lib.ListN.{take}
 use borrow.Author.Needs.{needs}
 use native.Mathlib.Omega.{arith}
-use Rattle.scene.specs.Scene.{filled, orderOf, emptyOrderLine}
+use Rattle.limits.specs.Limits.{orderLines}
+use Rattle.scene_tables.specs.Tables.{tableAt, width, orders}
+use Rattle.scene.specs.Scene.{filled, orderOf}
 use Rattle.scene_questions.specs.Places.{rowsIn}
 use Rattle.scene.proofs.laws.Typed.{fill-start, fill-next, fill-done}
 use Rattle.scene.proofs.scene.order_lines.Statement.{statement}
 use Rattle.scene.proofs.scene.order_lines.Tie as tie
 
 abbrev Inv-loop : tie.InvT-loop
-Inv-loop values start lines out₀ i₀ out i = (i ≤ lines) × (out ≡ filled 128 emptyOrderLine orderOf (take i (rowsIn values start 10 lines)))
+Inv-loop values start lines out₀ i₀ out i = (i ≤ lines) × (out ≡ filled orderLines orderOf (take i (rowsIn values start (width (tableAt orders)) lines)))
 
 abbrev μ-loop : tie.MeasureT-loop
 μ-loop values start lines out₀ i₀ out i = lines - i
 
-no-order-requires : tie.Need-no-order-requires Inv-loop μ-loop
-no-order-requires c κs = search needs
+order-line-of-requires : tie.Need-order-line-of-requires Inv-loop μ-loop
+order-line-of-requires c κs = search needs
 
 loop-holds : tie.Need-loop-holds Inv-loop μ-loop
-loop-holds c = (omega arith, fill-start 128 emptyOrderLine orderOf (c .no-order .result) (c .no-order .ensures))
+loop-holds c = (omega arith, fill-start orderLines orderOf (c .before .before .args .values .now) (width (tableAt orders)) (c .order-line-of .result) (c .order-line-of .ensures))
 
 mul-order-line-of : tie.Need-mul-order-line-of Inv-loop μ-loop
 mul-order-line-of c = omega arith
@@ -28,8 +30,8 @@ mul-order-line-of c = omega arith
 add-order-line-of : tie.Need-add-order-line-of Inv-loop μ-loop
 add-order-line-of c = omega arith
 
-order-line-of-requires : tie.Need-order-line-of-requires Inv-loop μ-loop
-order-line-of-requires c κs = search needs
+order-line-of-requires-2 : tie.Need-order-line-of-requires-2 Inv-loop μ-loop
+order-line-of-requires-2 c κs = search needs
 
 mul-out : tie.Need-mul-out Inv-loop μ-loop
 mul-out c = omega arith
@@ -55,11 +57,11 @@ order-lines-spec =
     (tie.spec
     Inv-loop
     μ-loop
-    no-order-requires
+    order-line-of-requires
     loop-holds
     mul-order-line-of
     add-order-line-of
-    order-line-of-requires
+    order-line-of-requires-2
     mul-out
     array-set-from-out
     add-i

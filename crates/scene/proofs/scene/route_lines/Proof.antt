@@ -4,23 +4,25 @@ use Prim.Native.Nat.{_≤_, _-_}
 use lib.ListN.{take}
 use borrow.Author.Needs.{needs}
 use native.Mathlib.Omega.{arith}
-use Rattle.scene.specs.Scene.{filled, routeOf, emptyRouteLine}
+use Rattle.limits.specs.Limits.{routeLines}
+use Rattle.scene_tables.specs.Tables.{tableAt, width, routes}
+use Rattle.scene.specs.Scene.{filled, routeOf}
 use Rattle.scene_questions.specs.Places.{rowsIn}
 use Rattle.scene.proofs.laws.Typed.{fill-start, fill-next, fill-done}
 use Rattle.scene.proofs.scene.route_lines.Statement.{statement}
 use Rattle.scene.proofs.scene.route_lines.Tie as tie
 
 abbrev Inv-loop : tie.InvT-loop
-Inv-loop values start lines out₀ i₀ out i = (i ≤ lines) × (out ≡ filled 64 emptyRouteLine routeOf (take i (rowsIn values start 3 lines)))
+Inv-loop values start lines out₀ i₀ out i = (i ≤ lines) × (out ≡ filled routeLines routeOf (take i (rowsIn values start (width (tableAt routes)) lines)))
 
 abbrev μ-loop : tie.MeasureT-loop
 μ-loop values start lines out₀ i₀ out i = lines - i
 
-no-route-requires : tie.Need-no-route-requires Inv-loop μ-loop
-no-route-requires c κs = search needs
+route-line-of-requires : tie.Need-route-line-of-requires Inv-loop μ-loop
+route-line-of-requires c κs = search needs
 
 loop-holds : tie.Need-loop-holds Inv-loop μ-loop
-loop-holds c = (omega arith, fill-start 64 emptyRouteLine routeOf (c .no-route .result) (c .no-route .ensures))
+loop-holds c = (omega arith, fill-start routeLines routeOf (c .before .before .args .values .now) (width (tableAt routes)) (c .route-line-of .result) (c .route-line-of .ensures))
 
 mul-route-line-of : tie.Need-mul-route-line-of Inv-loop μ-loop
 mul-route-line-of c = omega arith
@@ -28,8 +30,8 @@ mul-route-line-of c = omega arith
 add-route-line-of : tie.Need-add-route-line-of Inv-loop μ-loop
 add-route-line-of c = omega arith
 
-route-line-of-requires : tie.Need-route-line-of-requires Inv-loop μ-loop
-route-line-of-requires c κs = search needs
+route-line-of-requires-2 : tie.Need-route-line-of-requires-2 Inv-loop μ-loop
+route-line-of-requires-2 c κs = search needs
 
 mul-out : tie.Need-mul-out Inv-loop μ-loop
 mul-out c = omega arith
@@ -55,11 +57,11 @@ route-lines-spec =
     (tie.spec
     Inv-loop
     μ-loop
-    no-route-requires
+    route-line-of-requires
     loop-holds
     mul-route-line-of
     add-route-line-of
-    route-line-of-requires
+    route-line-of-requires-2
     mul-out
     array-set-from-out
     add-i

@@ -2,7 +2,6 @@
 use mathlib.Core.List.{[]}
 use native.Mathlib.Omega.{arith}
 use borrow.Author.Needs.{needs}
-use Rattle.scene_tables.specs.Tables.{width}
 use Rattle.scene.proofs.laws.Whole.{lies, scene-is}
 use Rattle.scene.proofs.scene.scene_of.Statement.{statement}
 use Rattle.scene.proofs.scene.scene_of.Tie as tie
@@ -20,7 +19,6 @@ element-copy-out-clock-lines-2 : tie.Need-element-copy-out-clock-lines-2
 element-copy-out-clock-lines-2 c = search needs
 
 clock-lines-requires : tie.Need-clock-lines-requires
-unfolding width
 clock-lines-requires c κs = lies (c .before .before .before .before .before .args .starts .now) (c .before .before .before .before .before .args .counts .now) [] (c .before .before .before .before .before .pre .1) (c .before .before .before .before .before .pre .0) 1 (omega arith)
 
 element-copy-out-track-lines : tie.Need-element-copy-out-track-lines
@@ -30,7 +28,6 @@ element-copy-out-track-lines-2 : tie.Need-element-copy-out-track-lines-2
 element-copy-out-track-lines-2 c = search needs
 
 track-lines-requires : tie.Need-track-lines-requires
-unfolding width
 track-lines-requires c κs = lies (c .before .before .before .before .before .before .before .before .args .starts .now) (c .before .before .before .before .before .before .before .before .args .counts .now) [] (c .before .before .before .before .before .before .before .before .pre .1) (c .before .before .before .before .before .before .before .before .pre .0) 2 (omega arith)
 
 element-copy-out-send-lines : tie.Need-element-copy-out-send-lines
@@ -40,7 +37,6 @@ element-copy-out-send-lines-2 : tie.Need-element-copy-out-send-lines-2
 element-copy-out-send-lines-2 c = search needs
 
 send-lines-requires : tie.Need-send-lines-requires
-unfolding width
 send-lines-requires c κs = lies (c .before .before .before .before .before .before .before .before .before .before .before .args .starts .now) (c .before .before .before .before .before .before .before .before .before .before .before .args .counts .now) [] (c .before .before .before .before .before .before .before .before .before .before .before .pre .1) (c .before .before .before .before .before .before .before .before .before .before .before .pre .0) 3 (omega arith)
 
 element-copy-out-route-lines : tie.Need-element-copy-out-route-lines
@@ -50,7 +46,6 @@ element-copy-out-route-lines-2 : tie.Need-element-copy-out-route-lines-2
 element-copy-out-route-lines-2 c = search needs
 
 route-lines-requires : tie.Need-route-lines-requires
-unfolding width
 route-lines-requires c κs = lies (c .before .before .before .before .before .before .before .before .before .before .before .before .before .before .args .starts .now) (c .before .before .before .before .before .before .before .before .before .before .before .before .before .before .args .counts .now) [] (c .before .before .before .before .before .before .before .before .before .before .before .before .before .before .pre .1) (c .before .before .before .before .before .before .before .before .before .before .before .before .before .before .pre .0) 4 (omega arith)
 
 element-copy-out-sound-lines : tie.Need-element-copy-out-sound-lines
@@ -60,7 +55,6 @@ element-copy-out-sound-lines-2 : tie.Need-element-copy-out-sound-lines-2
 element-copy-out-sound-lines-2 c = search needs
 
 sound-lines-requires : tie.Need-sound-lines-requires
-unfolding width
 sound-lines-requires c κs = lies (c .before .before .before .before .before .before .before .before .before .before .before .before .before .before .before .before .before .args .starts .now) (c .before .before .before .before .before .before .before .before .before .before .before .before .before .before .before .before .before .args .counts .now) [] (c .before .before .before .before .before .before .before .before .before .before .before .before .before .before .before .before .before .pre .1) (c .before .before .before .before .before .before .before .before .before .before .before .before .before .before .before .before .before .pre .0) 5 (omega arith)
 
 element-copy-out-order-lines : tie.Need-element-copy-out-order-lines
@@ -70,7 +64,6 @@ element-copy-out-order-lines-2 : tie.Need-element-copy-out-order-lines-2
 element-copy-out-order-lines-2 c = search needs
 
 order-lines-requires : tie.Need-order-lines-requires
-unfolding width
 order-lines-requires c κs = lies (c .before .before .before .before .before .before .before .before .before .before .before .before .before .before .before .before .before .before .before .before .args .starts .now) (c .before .before .before .before .before .before .before .before .before .before .before .before .before .before .before .before .before .before .before .before .args .counts .now) [] (c .before .before .before .before .before .before .before .before .before .before .before .before .before .before .before .before .before .before .before .before .pre .1) (c .before .before .before .before .before .before .before .before .before .before .before .before .before .before .before .before .before .before .before .before .pre .0) 6 (omega arith)
 
 element-copy-out-t13 : tie.Need-element-copy-out-t13

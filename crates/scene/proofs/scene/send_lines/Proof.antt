@@ -4,23 +4,25 @@ use Prim.Native.Nat.{_≤_, _-_}
 use lib.ListN.{take}
 use borrow.Author.Needs.{needs}
 use native.Mathlib.Omega.{arith}
-use Rattle.scene.specs.Scene.{filled, sendOf, emptySendLine}
+use Rattle.limits.specs.Limits.{sendLines}
+use Rattle.scene_tables.specs.Tables.{tableAt, width, sends}
+use Rattle.scene.specs.Scene.{filled, sendOf}
 use Rattle.scene_questions.specs.Places.{rowsIn}
 use Rattle.scene.proofs.laws.Typed.{fill-start, fill-next, fill-done}
 use Rattle.scene.proofs.scene.send_lines.Statement.{statement}
 use Rattle.scene.proofs.scene.send_lines.Tie as tie
 
 abbrev Inv-loop : tie.InvT-loop
-Inv-loop values start lines out₀ i₀ out i = (i ≤ lines) × (out ≡ filled 8 emptySendLine sendOf (take i (rowsIn values start 1 lines)))
+Inv-loop values start lines out₀ i₀ out i = (i ≤ lines) × (out ≡ filled sendLines sendOf (take i (rowsIn values start (width (tableAt sends)) lines)))
 
 abbrev μ-loop : tie.MeasureT-loop
 μ-loop values start lines out₀ i₀ out i = lines - i
 
-no-send-requires : tie.Need-no-send-requires Inv-loop μ-loop
-no-send-requires c κs = search needs
+send-line-of-requires : tie.Need-send-line-of-requires Inv-loop μ-loop
+send-line-of-requires c κs = search needs
 
 loop-holds : tie.Need-loop-holds Inv-loop μ-loop
-loop-holds c = (omega arith, fill-start 8 emptySendLine sendOf (c .no-send .result) (c .no-send .ensures))
+loop-holds c = (omega arith, fill-start sendLines sendOf (c .before .before .args .values .now) (width (tableAt sends)) (c .send-line-of .result) (c .send-line-of .ensures))
 
 mul-send-line-of : tie.Need-mul-send-line-of Inv-loop μ-loop
 mul-send-line-of c = omega arith
@@ -28,8 +30,8 @@ mul-send-line-of c = omega arith
 add-send-line-of : tie.Need-add-send-line-of Inv-loop μ-loop
 add-send-line-of c = omega arith
 
-send-line-of-requires : tie.Need-send-line-of-requires Inv-loop μ-loop
-send-line-of-requires c κs = search needs
+send-line-of-requires-2 : tie.Need-send-line-of-requires-2 Inv-loop μ-loop
+send-line-of-requires-2 c κs = search needs
 
 mul-out : tie.Need-mul-out Inv-loop μ-loop
 mul-out c = omega arith
@@ -55,11 +57,11 @@ send-lines-spec =
     (tie.spec
     Inv-loop
     μ-loop
-    no-send-requires
+    send-line-of-requires
     loop-holds
     mul-send-line-of
     add-send-line-of
-    send-line-of-requires
+    send-line-of-requires-2
     mul-out
     array-set-from-out
     add-i

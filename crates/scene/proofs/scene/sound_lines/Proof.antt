@@ -4,23 +4,25 @@ use Prim.Native.Nat.{_≤_, _-_}
 use lib.ListN.{take}
 use borrow.Author.Needs.{needs}
 use native.Mathlib.Omega.{arith}
-use Rattle.scene.specs.Scene.{filled, soundOf, emptySoundLine}
+use Rattle.limits.specs.Limits.{soundLines}
+use Rattle.scene_tables.specs.Tables.{tableAt, width, sounds}
+use Rattle.scene.specs.Scene.{filled, soundOf}
 use Rattle.scene_questions.specs.Places.{rowsIn}
 use Rattle.scene.proofs.laws.Typed.{fill-start, fill-next, fill-done}
 use Rattle.scene.proofs.scene.sound_lines.Statement.{statement}
 use Rattle.scene.proofs.scene.sound_lines.Tie as tie
 
 abbrev Inv-loop : tie.InvT-loop
-Inv-loop values start lines out₀ i₀ out i = (i ≤ lines) × (out ≡ filled 64 emptySoundLine soundOf (take i (rowsIn values start 3 lines)))
+Inv-loop values start lines out₀ i₀ out i = (i ≤ lines) × (out ≡ filled soundLines soundOf (take i (rowsIn values start (width (tableAt sounds)) lines)))
 
 abbrev μ-loop : tie.MeasureT-loop
 μ-loop values start lines out₀ i₀ out i = lines - i
 
-no-sound-requires : tie.Need-no-sound-requires Inv-loop μ-loop
-no-sound-requires c κs = search needs
+sound-line-of-requires : tie.Need-sound-line-of-requires Inv-loop μ-loop
+sound-line-of-requires c κs = search needs
 
 loop-holds : tie.Need-loop-holds Inv-loop μ-loop
-loop-holds c = (omega arith, fill-start 64 emptySoundLine soundOf (c .no-sound .result) (c .no-sound .ensures))
+loop-holds c = (omega arith, fill-start soundLines soundOf (c .before .before .args .values .now) (width (tableAt sounds)) (c .sound-line-of .result) (c .sound-line-of .ensures))
 
 mul-sound-line-of : tie.Need-mul-sound-line-of Inv-loop μ-loop
 mul-sound-line-of c = omega arith
@@ -28,8 +30,8 @@ mul-sound-line-of c = omega arith
 add-sound-line-of : tie.Need-add-sound-line-of Inv-loop μ-loop
 add-sound-line-of c = omega arith
 
-sound-line-of-requires : tie.Need-sound-line-of-requires Inv-loop μ-loop
-sound-line-of-requires c κs = search needs
+sound-line-of-requires-2 : tie.Need-sound-line-of-requires-2 Inv-loop μ-loop
+sound-line-of-requires-2 c κs = search needs
 
 mul-out : tie.Need-mul-out Inv-loop μ-loop
 mul-out c = omega arith
@@ -55,11 +57,11 @@ sound-lines-spec =
     (tie.spec
     Inv-loop
     μ-loop
-    no-sound-requires
+    sound-line-of-requires
     loop-holds
     mul-sound-line-of
     add-sound-line-of
-    sound-line-of-requires
+    sound-line-of-requires-2
     mul-out
     array-set-from-out
     add-i

@@ -1,6 +1,6 @@
 -- `name_end` meets its contract. Assumes nothing.
 use borrow.Author.Needs.{needs}
-use Rattle.scene_file.proofs.laws.Blocks.{line-fits}
+use Rattle.scene_file.proofs.laws.Sections.{line-fits}
 use Rattle.scene_file.proofs.grammar.name_end.Statement.{statement}
 use Rattle.scene_file.proofs.grammar.name_end.Tie as tie
 

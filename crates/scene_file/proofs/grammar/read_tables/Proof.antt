@@ -5,7 +5,7 @@ use borrow.Author.Tests.{not-true, not-false}
 use borrow.Author.Needs.{needs}
 use native.Mathlib.Omega.{arith}
 use Rattle.scene_tables.specs.Tables.{tables}
-use Rattle.scene_file.proofs.laws.Layout.{TablesLoop, tables-start, tables-done, tables-none, tables-bad, tables-next, tables-space, names-count, name-start, name-within, name-lies, name-add}
+use Rattle.scene_file.proofs.laws.Layout.{TablesLoop, tables-start, tables-more, tables-done, tables-none, tables-bad, tables-next, tables-space, names-count, name-start, name-within, name-lies, name-add}
 use Rattle.scene_file.proofs.grammar.read_tables.Statement.{statement}
 use Rattle.scene_file.proofs.grammar.read_tables.Tie as tie
 
@@ -20,6 +20,9 @@ names-text-requires c κs = search needs
 
 loop-holds : tie.Need-loop-holds Inv-loop μ-loop
 loop-holds c = tables-start _ _
+
+no-layout-requires : tie.Need-no-layout-requires Inv-loop μ-loop
+no-layout-requires c κs = search needs
 
 same-length : tie.Need-same-length Inv-loop μ-loop
 same-length c = search needs
@@ -47,6 +50,9 @@ part-table-end c = search (name-within, needs)
 
 table-requires : tie.Need-table-requires Inv-loop μ-loop
 table-requires c κs = (search (tables-space, needs), search needs)
+
+no-layout-requires-2 : tie.Need-no-layout-requires-2 Inv-loop μ-loop
+no-layout-requires-2 c κs = search needs
 
 same-length-2 : tie.Need-same-length-2 Inv-loop μ-loop
 same-length-2 c = omega arith
@@ -76,13 +82,22 @@ loop-less : tie.Need-loop-less Inv-loop μ-loop
 loop-less c = omega arith
 
 loop-again : tie.Need-loop-again Inv-loop μ-loop
-loop-again c = tables-next _ _ _ _ _ _ _ _ _ _ (c .before .before .before .before .before .before .before .before .before .before .before .before .before .loop .inv) (c .before .before .before .before .before .before .before .before .before .before .before .before .loop-test .taken) _ (c .before .before .before .before .before .before .before .before .before .before .before .before .before .before .names-text .ensures) _ (c .before .before .before .before .before .before .before .before .before .name-end .ensures) (not-false _ (c .before .before .before .before .before .before .before .before .before .before .before .if1 .left)) _ (c .before .before .before .before .before .before .before .before .rule-of .ensures) _ _ (c .before .before .before .before .table .ensures) (not-false _ (c .if2 .left)) (c .before .before .before .before .table .kept .1 .1 .1 .1 .0) (c .before .before .before .before .before .before .before .before .before .before .before .before .before .before .before .before .before .pre)
+loop-again c = tables-next _ _ _ _ _ _ _ _ _ _ (c .before .before .before .before .before .before .before .before .before .before .before .before .before .loop .inv) (c .before .before .before .before .before .before .before .before .before .before .before .before .loop-test .taken) _ (c .before .before .before .before .before .before .before .before .before .before .before .before .before .before .names-text .ensures) _ (c .before .before .before .before .before .before .before .before .before .name-end .ensures) (not-false _ (c .before .before .before .before .before .before .before .before .before .before .before .if1 .left)) _ (c .before .before .before .before .before .before .before .before .rule-of .ensures) _ _ (c .before .before .before .before .table .ensures) (not-false _ (c .if2 .left)) (c .before .before .before .before .table .kept .1 .1 .1 .1 .0)
+
+no-layout-requires-3 : tie.Need-no-layout-requires-3 Inv-loop μ-loop
+no-layout-requires-3 c κs = search needs
 
 same-length-3 : tie.Need-same-length-3 Inv-loop μ-loop
 same-length-3 c = search needs
 
 returns-3 : tie.Need-returns-3 Inv-loop μ-loop
-returns-3 c = search (tables-done, needs)
+returns-3 c = search (tables-more, needs)
+
+same-length-4 : tie.Need-same-length-4 Inv-loop μ-loop
+same-length-4 c = search needs
+
+returns-4 : tie.Need-returns-4 Inv-loop μ-loop
+returns-4 c = search (tables-done, needs)
 
 pub read-tables-spec : {M : Type 1} → statement M
 read-tables-spec =
@@ -92,6 +107,7 @@ read-tables-spec =
     μ-loop
     names-text-requires
     loop-holds
+    no-layout-requires
     same-length
     returns
     slice-aggregate-name-end
@@ -101,6 +117,7 @@ read-tables-spec =
     part-table-start
     part-table-end
     table-requires
+    no-layout-requires-2
     same-length-2
     returns-2
     mul-starts
@@ -111,5 +128,8 @@ read-tables-spec =
     add-t
     loop-less
     loop-again
+    no-layout-requires-3
     same-length-3
-    returns-3)
+    returns-3
+    same-length-4
+    returns-4)

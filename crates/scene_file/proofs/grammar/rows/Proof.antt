@@ -4,7 +4,7 @@ use lib.ListN.{length}
 use borrow.Author.Tests.{not-true, not-false}
 use borrow.Author.Needs.{needs}
 use native.Mathlib.Omega.{arith}
-use Rattle.scene_file.proofs.laws.Blocks.{RowsLoop, rows-start, rows-done, rows-empty, rows-room, rows-add, rows-add-one, rows-add-place, rows-bad, rows-next}
+use Rattle.scene_file.proofs.laws.Sections.{RowsLoop, rows-start, rows-done, rows-empty, rows-room, rows-add, rows-add-one, rows-add-place, rows-bad, rows-next}
 use Rattle.scene_file.proofs.laws.Numbers.{position-count}
 use Rattle.scene_file.proofs.grammar.rows.Statement.{statement}
 use Rattle.scene_file.proofs.grammar.rows.Tie as tie
@@ -70,7 +70,7 @@ loop-less : tie.Need-loop-less Inv-loop μ-loop
 loop-less c = omega arith
 
 loop-again : tie.Need-loop-again Inv-loop μ-loop
-loop-again c = rows-next _ _ _ _ _ _ _ _ _ (c .before .before .before .before .before .before .before .before .before .before .loop .inv) _ (c .before .before .before .before .before .before .before .before .before .loop-test .taken) (c .before .before .before .before .before .before .before .find .ensures) (c .before .before .before .before .before .before .if1 .left) _ _ (c .before .before .before .row .ensures) (not-false _ (c .if2 .left)) (c .before .before .before .row .kept .1 .1 .0)
+loop-again c = rows-next _ _ _ _ _ _ _ _ _ (c .before .before .before .before .before .before .before .before .before .before .loop .inv) _ (c .before .before .before .before .before .before .before .before .before .loop-test .taken) (c .before .before .before .before .before .before .before .find .ensures) (c .before .before .before .before .before .before .if1 .left) _ _ (c .before .before .before .row .ensures) (not-false _ (c .if2 .left)) (c .before .before .before .row .kept .1 .1 .0) (omega arith)
 
 same-length-3 : tie.Need-same-length-3 Inv-loop μ-loop
 same-length-3 c = search needs

@@ -2,7 +2,7 @@
 use borrow.Author.Tests.{not-true, not-false}
 use native.Mathlib.Omega.{arith}
 use borrow.Author.Needs.{needs}
-use Rattle.scene_file.proofs.laws.Layout.{block-past, block-none, block-other, block-read, block-within, block-add, block-add-one}
+use Rattle.scene_file.proofs.laws.Layout.{section-past, section-none, section-other, section-read, section-within, section-add, section-add-one}
 use Rattle.scene_file.proofs.laws.Numbers.{position-count}
 use Rattle.scene_file.proofs.grammar.table.Statement.{statement}
 use Rattle.scene_file.proofs.grammar.table.Tie as tie
@@ -11,7 +11,7 @@ no-rows-requires : tie.Need-no-rows-requires
 no-rows-requires c κs = search needs
 
 returns : tie.Need-returns
-returns c = search (block-past, needs)
+returns c = search (section-past, needs)
 
 sub-rest : tie.Need-sub-rest
 sub-rest c = search needs
@@ -29,7 +29,7 @@ no-rows-requires-2 : tie.Need-no-rows-requires-2
 no-rows-requires-2 c κs = search needs
 
 returns-2 : tie.Need-returns-2
-returns-2 c = search (block-none, needs)
+returns-2 c = search (section-none, needs)
 
 slice-aggregate-same : tie.Need-slice-aggregate-same
 slice-aggregate-same c = search (position-count, needs)
@@ -41,22 +41,22 @@ no-rows-requires-3 : tie.Need-no-rows-requires-3
 no-rows-requires-3 c κs = search needs
 
 returns-3 : tie.Need-returns-3
-returns-3 c = search (block-other, not-true, needs)
+returns-3 c = search (section-other, not-true, needs)
 
 add-rows : tie.Need-add-rows
-add-rows c = search (block-add, needs)
+add-rows c = search (section-add, needs)
 
 add-rows-2 : tie.Need-add-rows-2
-add-rows-2 c = search (block-add-one, needs)
+add-rows-2 c = search (section-add-one, needs)
 
 rows-requires : tie.Need-rows-requires
-rows-requires c κs = (search needs, (omega arith, search (block-within, needs)))
+rows-requires c κs = (search needs, (omega arith, search (section-within, needs)))
 
 same-length : tie.Need-same-length
 same-length c = search needs
 
 returns-4 : tie.Need-returns-4
-returns-4 c = search (block-read, not-false, needs)
+returns-4 c = search (section-read, not-false, needs)
 
 pub table-spec : {M : Type 1} → statement M
 table-spec =

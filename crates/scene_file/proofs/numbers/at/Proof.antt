@@ -1,6 +1,6 @@
 -- `at` meets its contract: past the end `getD` gives its default. Assumes nothing.
 use borrow.Author.Needs.{needs}
-use Rattle.scene_file.proofs.laws.Small.{beyond, beyond-rest}
+use Rattle.scene_file.proofs.laws.Tails.{beyond, beyond-rest}
 use Rattle.scene_file.proofs.numbers.at.Statement.{statement}
 use Rattle.scene_file.proofs.numbers.at.Tie as tie
 

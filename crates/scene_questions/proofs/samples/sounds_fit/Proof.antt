@@ -6,6 +6,7 @@ use lib.ListN.{length}
 use borrow.Author.Needs.{needs}
 use native.Mathlib.Omega.{arith}
 use Rattle.scene_tables.specs.Bytes.{every}
+use Rattle.scene_tables.specs.Tables.{tableAt, width, sounds}
 use Rattle.scene_questions.specs.Questions.{soundFits}
 use Rattle.scene_questions.specs.Places.{rowsIn}
 use Rattle.scene_questions.proofs.laws.Tracks.{sounds-odd, sounds-none, sounds-failed, sounds-passed, sounds-done}
@@ -13,7 +14,7 @@ use Rattle.scene_questions.proofs.samples.sounds_fit.Statement.{stateme
 use Rattle.scene_questions.proofs.samples.sounds_fit.Tie as tie
 
 abbrev Inv-loop : tie.InvT-loop
-Inv-loop values start lines samples frames i₀ i = (i ≤ lines) × (every i (soundFits (rowsIn values start 3 lines) (length samples / 2)) ≡ true)
+Inv-loop values start lines samples frames i₀ i = (i ≤ lines) × (every i (soundFits (rowsIn values start (width (tableAt sounds)) lines) (length samples / 2)) ≡ true)
 
 abbrev μ-loop : tie.MeasureT-loop
 μ-loop values start lines samples frames i₀ i = lines - i

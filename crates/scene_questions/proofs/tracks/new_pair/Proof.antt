@@ -5,13 +5,14 @@ use Prim.Native.Nat.{_≤_, _-_}
 use borrow.Author.Needs.{needs}
 use native.Mathlib.Omega.{arith}
 use Rattle.scene_tables.specs.Bytes.{every}
+use Rattle.scene_tables.specs.Tables.{tableAt, width, routes}
 use Rattle.scene_questions.specs.Places.{rowsIn}
 use Rattle.scene_questions.proofs.laws.Tracks.{pairTest, pairs-none, pairs-failed, pairs-passed, pairs-done}
 use Rattle.scene_questions.proofs.tracks.new_pair.Statement.{statement}
 use Rattle.scene_questions.proofs.tracks.new_pair.Tie as tie
 
 abbrev Inv-loop : tie.InvT-loop
-Inv-loop values start lines i k₀ k = (k ≤ i) × (every k (pairTest (rowsIn values start 3 lines) i) ≡ true)
+Inv-loop values start lines i k₀ k = (k ≤ i) × (every k (pairTest (rowsIn values start (width (tableAt routes)) lines) i) ≡ true)
 
 abbrev μ-loop : tie.MeasureT-loop
 μ-loop values start lines i k₀ k = i - k

@@ -5,6 +5,7 @@ use Prim.Native.Nat.{_≤_, _-_}
 use borrow.Author.Needs.{needs}
 use native.Mathlib.Omega.{arith}
 use Rattle.scene_tables.specs.Bytes.{every}
+use Rattle.scene_tables.specs.Tables.{tableAt, width, routes}
 use Rattle.scene_questions.specs.Questions.{newPair}
 use Rattle.scene_questions.specs.Places.{rowsIn}
 use Rattle.scene_questions.proofs.laws.Tracks.{routes-none, routes-failed, routes-passed, routes-done}
@@ -12,7 +13,7 @@ use Rattle.scene_questions.proofs.tracks.routes_fit.Statement.{statemen
 use Rattle.scene_questions.proofs.tracks.routes_fit.Tie as tie
 
 abbrev Inv-loop : tie.InvT-loop
-Inv-loop values start lines i₀ i = (i ≤ lines) × (every i (newPair (rowsIn values start 3 lines)) ≡ true)
+Inv-loop values start lines i₀ i = (i ≤ lines) × (every i (newPair (rowsIn values start (width (tableAt routes)) lines)) ≡ true)
 
 abbrev μ-loop : tie.MeasureT-loop
 μ-loop values start lines i₀ i = lines - i

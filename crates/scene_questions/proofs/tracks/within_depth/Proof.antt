@@ -2,6 +2,8 @@
 use mathlib.Core.Path.{_≡_, refl}
 use borrow.Author.Needs.{needs}
 use native.Mathlib.Omega.{arith}
+use Rattle.limits.specs.Limits.{trackDepth}
+use Rattle.scene_tables.specs.Tables.{tableAt, width, tracks}
 use Rattle.scene_questions.specs.Questions.{withinDepth}
 use Rattle.scene_questions.specs.Places.{rowsIn}
 use Rattle.scene_questions.proofs.laws.Tracks.{depth-mixer, depth-next, depth-done}
@@ -9,7 +11,7 @@ use Rattle.scene_questions.proofs.tracks.within_depth.Statement.{statem
 use Rattle.scene_questions.proofs.tracks.within_depth.Tie as tie
 
 abbrev Inv-loop : tie.InvT-loop
-Inv-loop values start lines track line₀ d₀ line d = withinDepth d (rowsIn values start 2 lines) line ≡ withinDepth 4 (rowsIn values start 2 lines) track
+Inv-loop values start lines track line₀ d₀ line d = withinDepth d (rowsIn values start (width (tableAt tracks)) lines) line ≡ withinDepth trackDepth (rowsIn values start (width (tableAt tracks)) lines) track
 
 abbrev μ-loop : tie.MeasureT-loop
 μ-loop values start lines track line₀ d₀ line d = d

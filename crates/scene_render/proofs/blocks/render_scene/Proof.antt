@@ -1,7 +1,7 @@
 -- `render_scene` meets its contract. Where the loop's test is used, `omega` has beside it that there is a block: so a test that ends the loop too early
 -- is refused where the output is told, at `returns`. Assumes nothing.
-use mathlib.Core.Path.{_≡_, refl, sym, ap, _∙_, subst}
-use Prim.Native.Nat.{ℕ, _+_, _-_, _*_, _≤_, _<_}
+use mathlib.Core.Path.{_≡_, refl, sym, ap, _∙_}
+use Prim.Native.Nat.{_+_, _-_, _*_, _≤_, _<_}
 use native.Mathlib.Nat.{le-trans, le-of-eq}
 use native.Mathlib.Omega.{arith}
 use lib.ListN.{length}
@@ -9,7 +9,7 @@ use borrow.Author.Needs.{needs}
 use borrow.Rule.Slice.PartMut.{same-len-mid}
 use Rattle.laws.specs.Pieces.{pieces, begun}
 use Rattle.laws.proofs.laws.Pieces.{length-part, begun-zero}
-use Rattle.chunk.specs.Chunk.{IsParts}
+use Rattle.chunk.specs.Chunk.{partsOf}
 use Rattle.mixer.specs.Orders.{mixerOrdered}
 use Rattle.renderer.specs.Renderer.{chunkCount, mixerAt}
 use Rattle.renderer.proofs.laws.Renderer.{chunks-few, few-frames}
@@ -83,7 +83,7 @@ steady-blocks-requires c κs =
     let ok = start .pre .0 in
     let h : l .loop .b < start .args .scene .head .blocks = omega (arith, c .before .before .before .before .before .before .before .loop-test .taken, ok .blocks .0) in
     let ask = run-asks (start .args .scene) (start .args .samples .now) ok (start .pre .1 .0) (l .loop .b) h (l .loop .inv .2) (c .before .before .before .before .before .before .on-start-processing .ensures) (sym (c .before .before .before .before .before .is-steady .ensures) ∙ c .before .before .before .before .if1 .taken) in
-    let last = subst (λ (n : ℕ). IsParts n (c .before .before .before .before .before .before .before .before .before .before .parts-of2 .result)) (c .before .before .before .before .before .before .before .before .before .before .before .last-frames .ensures) (c .before .before .before .before .before .before .before .before .before .before .parts-of2 .ensures) in
+    let last = c .before .before .before .before .before .before .before .before .before .before .parts-of2 .ensures ∙ ap partsOf (c .before .before .before .before .before .before .before .before .before .before .before .last-frames .ensures) in
     (c .before .before .before .before .before .before .before .before .before .before .before .before .before .before .before .gain-table .ensures, (ask, (c .before .before .before .before .before .before .before .before .before .before .before .before .parts-of .ensures, (last, l .loop .inv .1 ∙ start .pre .1 .1))))
 
 loop-less : tie.Need-loop-less Inv-loop μ-loop

@@ -7,17 +7,14 @@ use Rattle.scene_rules.proofs.lines.index_names_line.Tie as tie
 returns : tie.Need-returns
 returns c = search (index-main, needs)
 
-add-if2 : tie.Need-add-if2
-add-if2 c = search needs
-
 returns-2 : tie.Need-returns-2
 returns-2 c = search (index-low, needs)
 
 natural-of-requires : tie.Need-natural-of-requires
 natural-of-requires c κs = search needs
 
-target-table-requires : tie.Need-target-table-requires
-target-table-requires c κs = search needs
+index-table-requires : tie.Need-index-table-requires
+index-table-requires c κs = search needs
 
 count-of-requires : tie.Need-count-of-requires
 count-of-requires c κs = search needs
@@ -30,9 +27,8 @@ index-names-line-spec =
     tie.close
     (tie.spec
     returns
-    add-if2
     returns-2
     natural-of-requires
-    target-table-requires
+    index-table-requires
     count-of-requires
     returns-3)

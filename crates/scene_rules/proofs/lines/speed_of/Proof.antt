@@ -16,9 +16,6 @@ int-to-float-number c = search needs
 returns : tie.Need-returns
 returns c = search (speed-seconds, needs)
 
-add-if2 : tie.Need-add-if2
-add-if2 c = search needs
-
 returns-2 : tie.Need-returns-2
 returns-2 c = search (speed-ticks, needs)
 
@@ -33,6 +30,5 @@ speed-of-spec =
     cast-number
     int-to-float-number
     returns
-    add-if2
     returns-2
     returns-3)

@@ -1,12 +1,8 @@
 -- `volume_fits` meets its contract. Assumes nothing.
 use borrow.Author.Tests.{le-leb, lt-leb}
-use borrow.Author.Needs.{needs}
 use Rattle.scene_questions.specs.Questions.{volumeFits}
 use Rattle.scene_rules.proofs.lines.volume_fits.Statement.{statement}
 use Rattle.scene_rules.proofs.lines.volume_fits.Tie as tie
-
-add-if1 : tie.Need-add-if1
-add-if1 c = search needs
 
 returns : tie.Need-returns
 unfolding volumeFits
@@ -17,4 +13,4 @@ unfolding volumeFits
 returns-2 c = rw (lt-leb _ _ (c .if1 .left))
 
 pub volume-fits-spec : {M : Type 1} → statement M
-volume-fits-spec = tie.close (tie.spec add-if1 returns returns-2)
+volume-fits-spec = tie.close (tie.spec returns returns-2)

@@ -1,7 +1,7 @@
 -- `rule_of` gives the rule of a table: the code's list is that of Tables.antt. Assumes nothing.
 use lib.ListN.{List·getD-map}
 use borrow.Author.Needs.{needs}
-use Rattle.scene_tables.specs.Tables.{tables, noTable, width}
+use Rattle.scene_tables.specs.Tables.{tables, noTable}
 use Rattle.scene_tables.specs.InCode.{ruleOf}
 use Rattle.scene_tables.proofs.tables.rule_of.Statement.{statement}
 use Rattle.scene_tables.proofs.tables.rule_of.Tie as tie
@@ -13,7 +13,7 @@ array-copy-out-result : tie.Need-array-copy-out-result
 array-copy-out-result c = search needs
 
 returns : tie.Need-returns
-unfolding ruleOf width
+unfolding ruleOf
 returns c = List·getD-map ruleOf tables (c .before .args .t) noTable
 
 pub rule-of-spec : {M : Type 1} → statement M

@@ -1,9 +1,7 @@
 -- `steady_block::mix_chunk` meets its contract: each arm has the parts that the test chose. Assumes nothing.
-use mathlib.Core.Path.{subst}
-use lib.ListN.{getD}
+use mathlib.Core.Path.{sym, _∙_}
 use borrow.Author.Needs.{needs}
 use Rattle.laws.proofs.laws.Choice.{cond-true, cond-false}
-use Rattle.chunk.specs.Chunk.{IsParts}
 use Rattle.steady_blocks.proofs.block.mix_chunk.Statement.{statement}
 use Rattle.steady_blocks.proofs.block.mix_chunk.Tie as tie
 
@@ -11,13 +9,13 @@ process-flat-requires : tie.Need-process-flat-requires
 process-flat-requires c κs =
     let start = c .before .before .before .before in
     let chosen = cond-true (start .args .ends) (start .args .last .now) (start .args .full .now) (c .before .if1 .taken) in
-    (start .pre .0, (start .pre .1 .0, (subst (IsParts (getD (start .args .places .now) 384 0)) chosen (start .pre .1 .1 .0), start .pre .1 .1 .1)))
+    (start .pre .0, (start .pre .1 .0, (sym chosen ∙ start .pre .1 .1 .0, start .pre .1 .1 .1)))
 
 process-flat-requires-2 : tie.Need-process-flat-requires-2
 process-flat-requires-2 c κs =
     let start = c .before .before .before .before in
     let chosen = cond-false (start .args .ends) (start .args .last .now) (start .args .full .now) (c .before .if1 .left) in
-    (start .pre .0, (start .pre .1 .0, (subst (IsParts (getD (start .args .places .now) 384 0)) chosen (start .pre .1 .1 .0), start .pre .1 .1 .1)))
+    (start .pre .0, (start .pre .1 .0, (sym chosen ∙ start .pre .1 .1 .0, start .pre .1 .1 .1)))
 
 same-length : tie.Need-same-length
 same-length c = search needs

@@ -17,11 +17,11 @@ use Rattle.steady_blocks.proofs.block.steady_block.Statement.{statement
 use Rattle.steady_blocks.proofs.block.steady_block.Tie as tie
 
 abbrev Inv-loop : tie.InvT-loop
-Inv-loop places₀ values head samples table full last out₀ channels count moved₀ k₀ places out moved k =
-    (k ≤ count) × (length out ≡ length out₀) × (places ≡ stillPlaces head k places₀) × (moved ≡ stillClocks head k moved₀) × (out ≡ begun (pieces (stillPiece head places₀ values samples) k) out₀)
+Inv-loop places₀ levels amplitudes head samples table full last out₀ channels count moved₀ k₀ places out moved k =
+    (k ≤ count) × (length out ≡ length out₀) × (places ≡ stillPlaces head k places₀) × (moved ≡ stillClocks head k moved₀) × (out ≡ begun (pieces (stillPiece head places₀ levels amplitudes samples) k) out₀)
 
 abbrev μ-loop : tie.MeasureT-loop
-μ-loop places₀ values head samples table full last out₀ channels count moved₀ k₀ places out moved k =
+μ-loop places₀ levels amplitudes head samples table full last out₀ channels count moved₀ k₀ places out moved k =
     count - k
 
 chunk-count-requires : tie.Need-chunk-count-requires Inv-loop μ-loop
@@ -164,7 +164,7 @@ loop-again c =
     let e = l .loop .inv .2 in
     let done = c .before .before .before .before .steady-chunk in (
       omega (arith, test),
-      same-len-mid from (from + frames .result * h .channels - from) (l .loop .out) (done .last .1 .1 .1 .1 .1 .1 .1 .1 .1 .0) (done .kept .1 .1 .1 .1 .1 .1 .1 .1 .1 .0) ∙ l .loop .inv .1,
+      same-len-mid from (from + frames .result * h .channels - from) (l .loop .out) (done .last .1 .1 .1 .1 .1 .1 .1 .1 .1 .1 .0) (done .kept .1 .1 .1 .1 .1 .1 .1 .1 .1 .1 .0) ∙ l .loop .inv .1,
       places-turn ok test all is e (done .ensures .0),
       clocks-turn ok test all is (l .loop .inv .3) (c .before .chunk-seconds .ensures) (c .update .ensures),
       samples-turn ok test all is e (start .args .out .now) (l .loop .inv .4) (done .ensures .1),
@@ -182,7 +182,7 @@ returns c =
     let last : l .loop .k ≡ l .before .chunk-count .result = omega (arith, c .loop-test .left, l .loop .inv .0) in
     let e : l .loop .k ≡ chunkCount h = last ∙ l .before .chunk-count .ensures in (
       l .loop .inv .3 ∙ ap (λ n. stillClocks h n (start .args .clocks)) e,
-      (l .loop .inv .2 ∙ ap (λ n. stillPlaces h n (start .args .places .now)) e, still-end h (start .args .places .now) (start .args .values .now) (start .args .samples .now) (ok .buffer .0) (start .args .out .now) (start .pre .1 .1 .1 .1) e (l .loop .inv .4)),
+      (l .loop .inv .2 ∙ ap (λ n. stillPlaces h n (start .args .places .now)) e, still-end h (start .args .places .now) (start .args .levels .now) (start .args .amplitudes .now) (start .args .samples .now) (ok .buffer .0) (start .args .out .now) (start .pre .1 .1 .1 .1) e (l .loop .inv .4)),
     )
 
 pub steady-block-spec : {M : Type 1} → statement M

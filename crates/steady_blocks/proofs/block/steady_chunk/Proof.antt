@@ -1,11 +1,11 @@
 -- `steady_block::steady_chunk` meets its contract. Assumes nothing.
-use mathlib.Core.Path.{_≡_, sym, _∙_, subst}
-use mathlib.Core.Bool.{cond}
+use mathlib.Core.Path.{_≡_, sym, ap, _∙_}
 use native.Mathlib.Omega.{arith}
 use lib.ListN.{getD}
 use borrow.Author.Needs.{needs}
 use Rattle.renderer.proofs.laws.Renderer.{mix-written}
-use Rattle.chunk.specs.Chunk.{IsParts}
+use Rattle.chunk.specs.Chunk.{partsOf}
+use Rattle.chunk.specs.Flat.{framesPlace}
 use Rattle.chunk.specs.Flat.{chunkFrom}
 use Rattle.steady_blocks.specs.Advance.{framed}
 use Rattle.steady_blocks.proofs.laws.Stands.{framed-here}
@@ -26,8 +26,8 @@ mix-chunk-requires c κs =
     let start = c .before .before .before .before in
     let n = start .args .frames in
     let places = start .args .places .now in
-    let here : getD (framed n places) 384 0 ≡ n = framed-here n places (start .pre .1 .0) in
-    (start .pre .0, (start .pre .1 .1 .0, (subst (λ i. IsParts i (cond (start .args .ends) (start .args .last .now) (start .args .full .now))) (sym here) (start .pre .1 .1 .1 .1 .0), omega (arith, start .pre .1 .1 .0 .short))))
+    let here : getD (framed n places) framesPlace 0 ≡ n = framed-here n places (start .pre .1 .0) in
+    (start .pre .0, (start .pre .1 .1 .0, (start .pre .1 .1 .1 .1 .0 ∙ ap partsOf (sym here), omega (arith, start .pre .1 .1 .0 .short))))
 
 slice-aggregate-write-frames : tie.Need-slice-aggregate-write-frames
 slice-aggregate-write-frames c = search needs
@@ -35,14 +35,14 @@ slice-aggregate-write-frames c = search needs
 write-frames-requires : tie.Need-write-frames-requires
 write-frames-requires c κs =
     let start = c .before .before .before .before .before .before .before .before in
-    let few = few-framed (start .args .frames) (start .args .places .now) (start .args .values .now) (start .args .samples .now) (start .pre .1 .0) (start .pre .1 .1 .0) in
-    (start .pre .1 .1 .1 .1 .1 .1, (omega (arith, few, c .before .before .before .mix-chunk .kept .1 .1 .1 .1 .1 .1 .1 .0), (few, start .pre .1 .1 .1 .1 .1 .0)))
+    let few = few-framed (start .args .frames) (start .args .places .now) (start .args .levels .now) (start .args .amplitudes .now) (start .args .samples .now) (start .pre .1 .0) (start .pre .1 .1 .0) in
+    (start .pre .1 .1 .1 .1 .1 .1, (omega (arith, few, c .before .before .before .mix-chunk .kept .1 .1 .1 .1 .1 .1 .1 .1 .0), (few, start .pre .1 .1 .1 .1 .1 .0)))
 
 advance-requires : tie.Need-advance-requires
 unfolding framed
 advance-requires c κs =
     let start = c .before .before .before .before .before .before .before .before .before .before .before .before in
-    framed-can-advance (start .args .frames) (start .args .places .now) (start .args .values .now) (start .args .samples .now) (start .pre .1 .0) (start .pre .1 .1 .0) (start .pre .1 .1 .1 .0) (omega (arith, start .good .1 .1 .1 .1 .1 .1 .1 .1 .0 .1))
+    framed-can-advance (start .args .frames) (start .args .places .now) (start .args .levels .now) (start .args .amplitudes .now) (start .args .samples .now) (start .pre .1 .0) (start .pre .1 .1 .0) (start .pre .1 .1 .1 .0) (omega (arith, start .good .1 .1 .1 .1 .1 .1 .1 .1 .1 .0 .1))
 
 same-length : tie.Need-same-length
 same-length c = search needs
@@ -53,9 +53,9 @@ returns c =
     let start = c .before .before .before .before .before .before .before .before .before .before .before .before .before in
     let n = start .args .frames in
     let places = start .args .places .now in
-    let few = few-framed n places (start .args .values .now) (start .args .samples .now) (start .pre .1 .0) (start .pre .1 .1 .0) in (
+    let few = few-framed n places (start .args .levels .now) (start .args .amplitudes .now) (start .args .samples .now) (start .pre .1 .0) (start .pre .1 .1 .0) in (
       c .advance .ensures,
-      c .before .before .before .before .write-frames .ensures ∙ mix-written (start .args .channels) n (chunkFrom (framed n places) (start .args .values .now)) (start .args .samples .now) _ (framed-here n places (start .pre .1 .0)) (omega (arith, few)) (c .before .before .before .before .before .before .before .before .mix-chunk .ensures),
+      c .before .before .before .before .write-frames .ensures ∙ mix-written (start .args .channels) n (chunkFrom (framed n places) (start .args .levels .now) (start .args .amplitudes .now)) (start .args .samples .now) _ (framed-here n places (start .pre .1 .0)) (omega (arith, few)) (c .before .before .before .before .before .before .before .before .mix-chunk .ensures),
     )
 
 pub steady-chunk-spec : {M : Type 1} → statement M

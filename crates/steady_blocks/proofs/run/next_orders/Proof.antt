@@ -4,6 +4,7 @@ use Prim.Native.Nat.{_-_, _≤_}
 use native.Mathlib.Omega.{arith}
 use lib.ListN.{getD}
 use borrow.Author.Needs.{needs}
+use Rattle.limits.specs.Limits.{orderLines}
 use Rattle.laws.specs.Loop.{upto}
 use Rattle.laws.proofs.laws.Loop.{upto-zero, upto-turn, upto-end}
 use Rattle.accepted.specs.Lines.{orderLine, absentOrderLine}
@@ -12,7 +13,7 @@ use Rattle.steady_blocks.proofs.run.next_orders.Statement.{statement}
 use Rattle.steady_blocks.proofs.run.next_orders.Tie as tie
 
 abbrev Inv-loop : tie.InvT-loop
-Inv-loop first orders count end₀ i₀ end i = (i ≤ count) × (count ≤ 128) × (end ≡ upto (λ j e. nearerBlock first (getD orders j absentOrderLine .block) e) i end₀)
+Inv-loop first orders count end₀ i₀ end i = (i ≤ count) × (count ≤ orderLines) × (end ≡ upto (λ j e. nearerBlock first (getD orders j absentOrderLine .block) e) i end₀)
 
 abbrev μ-loop : tie.MeasureT-loop
 μ-loop first orders count end₀ i₀ end i = count - i

@@ -4,6 +4,8 @@ use Prim.Native.Nat.{_+_, _-_, _≤_}
 use native.Mathlib.Omega.{arith}
 use lib.ListN.{getD}
 use borrow.Author.Needs.{needs}
+use Rattle.limits.specs.Limits.{soundLines}
+use Rattle.chunk.specs.Flat.{soundLeftsFrom}
 use Rattle.laws.specs.Loop.{changed}
 use Rattle.laws.proofs.laws.Loop.{changed-zero, changed-end, changed-turn-any}
 use Rattle.accepted.specs.Lines.{soundLine, absentSoundLine}
@@ -12,7 +14,7 @@ use Rattle.steady_blocks.proofs.run.played_by.Statement.{statement}
 use Rattle.steady_blocks.proofs.run.played_by.Tie as tie
 
 abbrev Inv-loop : tie.InvT-loop
-Inv-loop places lines count done₀ k₀ done k = (k ≤ count) × (count ≤ 64) × (done ≡ changed (λ i x. getD lines i absentSoundLine .count - getD places (320 + i) 0) k done₀)
+Inv-loop places lines count done₀ k₀ done k = (k ≤ count) × (count ≤ soundLines) × (done ≡ changed (λ i x. getD lines i absentSoundLine .count - getD places (soundLeftsFrom + i) 0) k done₀)
 
 abbrev μ-loop : tie.MeasureT-loop
 μ-loop places lines count done₀ k₀ done k = count - k
@@ -56,13 +58,13 @@ loop-again : tie.Need-loop-again Inv-loop μ-loop
 loop-again c =
     let l = c .before .before .before .before in
     let s = l .before .before .args in
-    (search needs, search needs, changed-turn-any (λ i x. soundLine (s .scene) i .count - getD (s .places .now) (320 + i) 0) (l .loop .k) (s .played) 0 (l .loop .inv .2))
+    (search needs, search needs, changed-turn-any (λ i x. soundLine (s .scene) i .count - getD (s .places .now) (soundLeftsFrom + i) 0) (l .loop .k) (s .played) 0 (l .loop .inv .2))
 
 returns : tie.Need-returns Inv-loop μ-loop
 unfolding playedBy
 returns c =
     let s = c .before .before .before .args in
-    changed-end (λ i x. soundLine (s .scene) i .count - getD (s .places .now) (320 + i) 0) (s .played) (omega arith) (c .before .loop .inv .2)
+    changed-end (λ i x. soundLine (s .scene) i .count - getD (s .places .now) (soundLeftsFrom + i) 0) (s .played) (omega arith) (c .before .loop .inv .2)
 
 pub played-by-spec : {M : Type 1} → statement M
 played-by-spec =

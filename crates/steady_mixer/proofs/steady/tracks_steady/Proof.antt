@@ -7,7 +7,7 @@ use native.Mathlib.Numerals.{add-one-le}
 use lib.ListN.{length, length-set}
 use borrow.Author.Needs.{needs}
 use Rattle.scene_tables.specs.Bytes.{every}
-use Rattle.scene_questions.proofs.laws.Loops.{every-none, every-done}
+use Rattle.scene_tables.proofs.laws.Every.{every-none, every-done}
 use Rattle.steady_mixer.proofs.laws.Tests.{line-fails, line-passes}
 use Rattle.steady_mixer.proofs.laws.Flags.{Flags, flags-none, flags-next, flag-found}
 use Rattle.steady_mixer.proofs.steady.tracks_steady.Statement.{statement}

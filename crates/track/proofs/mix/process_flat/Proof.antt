@@ -1,17 +1,20 @@
+-- The mix of a chunk by its flat tables: links are made of them, and then the four parts of the mix follow one another.
 use mathlib.Core.Path.{sym, ap, _∙_, subst}
 use native.Mathlib.Omega.{arith}
 use lib.Ieee.{binary32, ofBits, ofInt}
-use lib.ListN.{replicate, length-replicate}
+use lib.ListN.{length, replicate, length-replicate}
 use borrow.Author.Needs.{needs}
 use Rattle.chunk.specs.declared.chunk.Level.{Level}
 use Rattle.chunk.specs.Chunk.{LevelInRange}
-use Rattle.frame.specs.Frame.{withFrames}
+use Rattle.frame.specs.Layout.{scratch, withFrames}
 use Rattle.chunk.specs.Flat.{chunkFrom}
 use Rattle.track.specs.Sound.{withSounds}
-use Rattle.track.specs.Send.{levelScaled}
-use Rattle.track.specs.Sub.{sendFrames}
-use Rattle.track.specs.Mix.{tracksSet, withAllSends, withSendTracks}
-use Rattle.frame.proofs.laws.Frame.{kept}
+use Rattle.limits.specs.Limits.{trackDepth}
+use Rattle.track.specs.Send.{levelScaled, sendPlaces}
+use Rattle.track.specs.Sub.{withSubSends}
+use Rattle.track.specs.Mix.{tracksSet, withSendTracks}
+use Rattle.frame.proofs.laws.Layout.{kept}
+use Rattle.track.proofs.laws.Send.{onSends-length}
 use Rattle.track.proofs.laws.Owners.{tracks-linked, sounds-linked}
 use Rattle.track.proofs.laws.Mix.{chunk-mixed}
 use Rattle.track.proofs.mix.process_flat.Statement.{statement}
@@ -37,54 +40,55 @@ slice-aggregate-process-tracks c = search needs
 
 process-tracks-requires : tie.Need-process-tracks-requires
 process-tracks-requires c κs =
-    let start = c .before .before .before .before .before .before .before .before .before .before .before in
+    let start = c .before .before .before .before .before .before .before .before .before .before .before .before .before in
     let args = start .args in
     let ok = start .pre .1 .0 in
     let places = args .places .now in
-    let values = args .values .now in
-    (start .pre .0, (ok, ((tracks-linked places values (ok .tracks) (c .before .before .before .before .before .before .links-of .ensures), sounds-linked places values (ok .sounds) (c .before .before .before .before .links-of2 .ensures)), (start .pre .1 .1 .0, (start .pre .1 .1 .1, length-replicate 4096 (ofBits binary32 0))))))
+    let levels = args .levels .now in
+    let amplitudes = args .amplitudes .now in
+    (start .pre .0, (ok, ((tracks-linked places levels amplitudes (ok .tracks) (c .before .before .before .before .before .before .before .links-of .ensures), sounds-linked places levels amplitudes (ok .sounds) (c .before .before .before .before .links-of2 .ensures)), (start .pre .1 .1 .0, (start .pre .1 .1 .1, length-replicate sendPlaces (ofBits binary32 0))))))
 
 slice-aggregate-add-sends : tie.Need-slice-aggregate-add-sends
 slice-aggregate-add-sends c = search needs
 
 add-sends-requires : tie.Need-add-sends-requires
 add-sends-requires c κs =
-    let start = c .before .before .before .before .before .before .before .before .before .before .before .before .before .before .before .before .before in
+    let start = c .before .before .before .before .before .before .before .before .before .before .before .before .before .before .before .before .before .before .before in
     let args = start .args in
-    let chunk = chunkFrom (args .places .now) (args .values .now) in
+    let chunk = chunkFrom (args .places .now) (args .levels .now) (args .amplitudes .now) in
     let samples = args .samples .now in
     let t = c .before .before .before .before .before .process-tracks .ensures in
-    let a = kept (tracksSet chunk samples) (chunk .frames) (args .out .now) (t .0) in
-    (start .pre .0, (start .pre .1 .0, (start .pre .1 .1 .0, (omega (arith, a, start .pre .1 .1 .1), kept (withAllSends chunk samples) sendFrames (replicate 4096 (ofBits binary32 0)) (t .1) ∙ length-replicate 4096 (ofBits binary32 0)))))
+    let a = kept (scratch 0 (chunk .frames)) (tracksSet chunk samples) (chunk .frames) (args .out .now) (t .0) in
+    (start .pre .0, (start .pre .1 .0, (start .pre .1 .1 .0, (omega (arith, a, start .pre .1 .1 .1), ap length (t .1) ∙ onSends-length (chunk .frames) (withSubSends trackDepth chunk samples 0) (replicate sendPlaces (ofBits binary32 0)) ∙ length-replicate sendPlaces (ofBits binary32 0)))))
 
 add-sounds-requires : tie.Need-add-sounds-requires
 add-sounds-requires c κs =
-    let start = c .before .before .before .before .before .before .before .before .before .before .before .before .before .before .before .before .before .before .before .before .before .before in
+    let start = c .before .before .before .before .before .before .before .before .before .before .before .before .before .before .before .before .before .before .before .before .before .before .before .before in
     let args = start .args in
-    let chunk = chunkFrom (args .places .now) (args .values .now) in
+    let chunk = chunkFrom (args .places .now) (args .levels .now) (args .amplitudes .now) in
     let samples = args .samples .now in
     let ok = start .pre .1 .0 in
     let tracks = c .before .before .before .before .before .before .before .before .before .before .process-tracks in
     let sent = c .before .before .before .before .add-sends in
-    let a = kept (tracksSet chunk samples) (chunk .frames) (args .out .now) (tracks .ensures .0) in
-    let b = kept (withSendTracks chunk (tracks .last .1 .1 .1 .1 .1 .1 .1 .1 .0)) (chunk .frames) (tracks .last .1 .1 .1 .1 .1 .1 .1 .0) (sent .ensures) in
-    (ok, (sounds-linked (args .places .now) (args .values .now) (ok .sounds) (c .before .before .before .before .before .before .before .before .before .before .before .before .before .before .before .links-of2 .ensures), (omega (arith, a, b, start .pre .1 .1 .1), omega arith)))
+    let a = kept (scratch 0 (chunk .frames)) (tracksSet chunk samples) (chunk .frames) (args .out .now) (tracks .ensures .0) in
+    let b = kept (scratch 0 (chunk .frames)) (withSendTracks chunk (tracks .last .1 .1 .1 .1 .1 .1 .1 .1 .1 .0)) (chunk .frames) _ (sent .ensures) in
+    (ok, (sounds-linked (args .places .now) (args .levels .now) (args .amplitudes .now) (ok .sounds) (c .before .before .before .before .before .before .before .before .before .before .before .before .before .before .before .links-of2 .ensures), (omega (arith, a, b, start .pre .1 .1 .1), omega arith)))
 
 main-level-requires : tie.Need-main-level-requires
 main-level-requires c κs = search needs
 
 apply-level-requires : tie.Need-apply-level-requires
 apply-level-requires c κs =
-    let start = c .before .before .before .before .before .before .before .before .before .before .before .before .before .before .before .before .before .before .before .before .before .before .before .before .before .before .before in
+    let start = c .before .before .before .before .before .before .before .before .before .before .before .before .before .before .before .before .before .before .before .before .before .before .before .before .before .before .before .before .before in
     let args = start .args in
-    let chunk = chunkFrom (args .places .now) (args .values .now) in
+    let chunk = chunkFrom (args .places .now) (args .levels .now) (args .amplitudes .now) in
     let samples = args .samples .now in
     let tracks = c .before .before .before .before .before .before .before .before .before .before .before .before .before .before .before .process-tracks in
     let sent = c .before .before .before .before .before .before .before .before .before .add-sends in
     let n = chunk .frames in
-    let a = kept (tracksSet chunk samples) n (args .out .now) (tracks .ensures .0) in
-    let b = kept (withSendTracks chunk (tracks .last .1 .1 .1 .1 .1 .1 .1 .1 .0)) n (tracks .last .1 .1 .1 .1 .1 .1 .1 .0) (sent .ensures) in
-    let d = kept (withSounds chunk samples 0) n (sent .last .1 .1 .1 .1 .1 .1 .0) (c .before .before .before .before .add-sounds .ensures) in
+    let a = kept (scratch 0 n) (tracksSet chunk samples) n (args .out .now) (tracks .ensures .0) in
+    let b = kept (scratch 0 n) (withSendTracks chunk (tracks .last .1 .1 .1 .1 .1 .1 .1 .1 .1 .0)) n _ (sent .ensures) in
+    let d = kept (scratch 0 n) (withSounds chunk samples 0) n _ (c .before .before .before .before .add-sounds .ensures) in
     let ok = start .pre .1 .0 in
     (start .pre .0, ((ok .short, omega (arith, a, b, d, start .pre .1 .1 .1)), (subst LevelInRange (sym (c .before .main-level .ensures)) (ok .mainLevel), start .pre .1 .1 .0)))
 
@@ -94,16 +98,16 @@ same-length c = search needs
 returns : tie.Need-returns
 unfolding ofBits ofInt
 returns c =
-    let start = c .before .before .before .before .before .before .before .before .before .before .before .before .before .before .before .before .before .before .before .before .before .before .before .before .before .before .before .before .before .before in
+    let start = c .before .before .before .before .before .before .before .before .before .before .before .before .before .before .before .before .before .before .before .before .before .before .before .before .before .before .before .before .before .before .before .before in
     let args = start .args in
-    let chunk = chunkFrom (args .places .now) (args .values .now) in
+    let chunk = chunkFrom (args .places .now) (args .levels .now) (args .amplitudes .now) in
     let samples = args .samples .now in
     let n = chunk .frames in
     let ok = start .pre .1 .0 in
     let tracks = c .before .before .before .before .before .before .before .before .before .before .before .before .before .before .before .before .before .before .process-tracks .ensures in
     let heard = c .before .before .before .before .before .before .before .add-sounds in
-    let scaled = c .before .before .apply-level .ensures ∙ ap (λ (x : Level). withFrames (levelScaled x n) n (heard .last .0)) (c .before .before .before .before .main-level .ensures) in
-    chunk-mixed chunk samples _ (ok .short) (tracks .1) (args .out .now) (ok .sends) (tracks .0) (c .before .before .before .before .before .before .before .before .before .before .before .before .add-sends .ensures) (heard .ensures) scaled
+    let scaled = c .before .before .apply-level .ensures ∙ ap (λ (x : Level). withFrames (scratch 0 n) (levelScaled x n) (heard .last .0)) (c .before .before .before .before .main-level .ensures) in
+    chunk-mixed chunk samples _ (ok .short) (tracks .1) (args .out .now) (start .pre .1 .1 .1) (ok .sends) (tracks .0) (c .before .before .before .before .before .before .before .before .before .before .before .before .add-sends .ensures) (heard .ensures) scaled
 
 pub process-flat-spec : {M : Type 1} → statement M
 process-flat-spec =

@@ -1,3 +1,5 @@
+-- A level that stands still goes its own way; of one that moves the factors are made, and a loop adds each frame scaled by its factor (`laws`,
+-- Steady).
 use mathlib.Core.Path.{_≡_, refl, sym, ap, ap₂, _∙_}
 use mathlib.Core.List.{List}
 use Prim.Native.Nat.{_-_, _≤_}
@@ -5,19 +7,21 @@ use native.Mathlib.Omega.{arith}
 use lib.ListN.{length, replicate, length-replicate}
 use lib.Ieee.{Float, binary32, ofBits}
 use borrow.Author.Needs.{needs}
+use Rattle.limits.specs.Limits.{chunkFramesMost}
 use Rattle.frame.specs.declared.frame.Frame.{Frame}
-use Rattle.frame.specs.Frame.{withFrames, added, scaled}
-use Rattle.frame.proofs.laws.Frame.{withFrames-zero, withFrames-put, withFrames-end}
+use Rattle.frame.specs.Frame.{added, scaled}
+use Rattle.frame.specs.Layout.{scratch, frameAt, withFirst}
+use Rattle.frame.proofs.laws.Layout.{first-zero, first-put, first-end}
 use Rattle.track.proofs.laws.Steady.{factorOf, sentEach, send-each}
 use Rattle.track.proofs.send.add_send.Statement.{statement}
 use Rattle.track.proofs.send.add_send.Tie as tie
 
 -- what the factors' array holds at first
 abbrev empty : List Float
-empty = replicate 256 (ofBits binary32 0)
+empty = replicate chunkFramesMost (ofBits binary32 0)
 
 abbrev Inv-loop : tie.InvT-loop
-Inv-loop out₀ inputs first frames parts table factors i₀ out i = (i ≤ frames) × (length out ≡ length out₀) × (out ≡ withFrames (sentEach inputs first factors) i out₀)
+Inv-loop out₀ inputs first frames parts table factors i₀ out i = (i ≤ frames) × (length out ≡ length out₀) × (out ≡ withFirst (scratch 0 frames) (sentEach (frameAt (scratch first frames) inputs) factors) i out₀)
 
 abbrev μ-loop : tie.MeasureT-loop
 μ-loop out₀ inputs first frames parts table factors i₀ out i = frames - i
@@ -42,13 +46,10 @@ amplitudes-requires c κs =
     (pre .0, (pre .1 .1 .1 .0, (pre .1 .0 .0, pre .1 .1 .1 .1)))
 
 loop-holds : tie.Need-loop-holds Inv-loop μ-loop
-loop-holds c = (search needs, refl, sym (withFrames-zero _ _))
+loop-holds c = (search needs, refl, sym (first-zero (scratch 0 _) _ _))
 
 zero-requires : tie.Need-zero-requires Inv-loop μ-loop
 zero-requires c κs = search needs
-
-add-frame-at : tie.Need-add-frame-at Inv-loop μ-loop
-add-frame-at c = search needs
 
 frame-at-requires : tie.Need-frame-at-requires Inv-loop μ-loop
 frame-at-requires c κs = search needs
@@ -90,7 +91,7 @@ loop-again c =
     let factors = l .before .amplitudes .last .1 .1 .1 .1 .0 in
     let input = c .before .before .before .before .before .before .before .before .added .ensures ∙ ap₂ added (c .before .before .before .before .before .before .before .before .before .before .zero .ensures) (c .before .before .before .before .before .before .before .before .before .frame-at .ensures) in
     let frame = c .before .before .before .before .before .before .before .scaled .ensures ∙ ap (λ (a : Frame). scaled a (factorOf factors (l .loop .i))) input in
-    let e = withFrames-put (sentEach (args .inputs .now) (args .first) factors) (l .loop .i) (args .out .now) (omega (arith, h, start .pre .1 .0 .1)) (inv .1) (inv .2) (c .before .before .before .added2 .ensures ∙ ap₂ added (c .before .before .before .before .frame-at2 .ensures) frame) (c .before .before .put-frame .ensures) in
+    let e = first-put (scratch 0 (args .frames)) (sentEach (frameAt (scratch (args .first) (args .frames)) (args .inputs .now)) factors) (l .loop .i) (args .out .now) (inv .1) (inv .2) (c .before .before .before .added2 .ensures ∙ ap₂ added (c .before .before .before .before .frame-at2 .ensures) frame) (c .before .before .put-frame .ensures) in
     (omega (arith, h, inv .0), e .0, e .1)
 
 same-length-2 : tie.Need-same-length-2 Inv-loop μ-loop
@@ -102,8 +103,8 @@ returns-2 c =
     let start = c .before .before .before .before .before .before .before .before in
     let args = start .args in
     let made = l .before .amplitudes in
-    withFrames-end (sentEach (args .inputs .now) (args .first) (made .last .1 .1 .1 .1 .0)) (args .out .now) (omega (arith, c .loop-test .left, l .loop .inv .0)) (l .loop .inv .2)
-    ∙ send-each (args .frames) (start .pre .1 .0 .0) (args .level) (args .inputs .now) (args .first) (args .out .now) empty (length-replicate 256 (ofBits binary32 0)) (made .ensures)
+    first-end (scratch 0 (args .frames)) (sentEach (frameAt (scratch (args .first) (args .frames)) (args .inputs .now)) (made .last .1 .1 .1 .1 .0)) (args .out .now) (omega (arith, c .loop-test .left, l .loop .inv .0)) (l .loop .inv .2)
+    ∙ send-each (args .frames) (start .pre .1 .0 .0) (args .level) (frameAt (scratch (args .first) (args .frames)) (args .inputs .now)) (args .out .now) empty (length-replicate chunkFramesMost (ofBits binary32 0)) (made .ensures)
 
 pub add-send-spec : {M : Type 1} → statement M
 add-send-spec =
@@ -118,7 +119,6 @@ add-send-spec =
     amplitudes-requires
     loop-holds
     zero-requires
-    add-frame-at
     frame-at-requires
     added-requires
     mul-t21

@@ -1,3 +1,4 @@
+-- A level that stands still scales all frames by one amplitude; of one that moves the factors are made, and a loop scales by them (`laws`, Steady).
 use mathlib.Core.Path.{_≡_, refl, sym, ap, _∙_}
 use mathlib.Core.List.{List}
 use Prim.Native.Nat.{_-_, _≤_}
@@ -5,19 +6,21 @@ use native.Mathlib.Omega.{arith}
 use lib.ListN.{length, replicate, length-replicate}
 use lib.Ieee.{Float, binary32, ofBits}
 use borrow.Author.Needs.{needs}
+use Rattle.limits.specs.Limits.{chunkFramesMost}
 use Rattle.frame.specs.declared.frame.Frame.{Frame}
-use Rattle.frame.specs.Frame.{withFrames, scaled}
-use Rattle.frame.proofs.laws.Frame.{withFrames-zero, withFrames-put, withFrames-end}
+use Rattle.frame.specs.Frame.{scaled}
+use Rattle.frame.specs.Layout.{scratch, withFirst}
+use Rattle.frame.proofs.laws.Layout.{first-zero, first-put, first-end}
 use Rattle.track.proofs.laws.Steady.{factorOf, scaledEach, level-steady, level-each}
 use Rattle.track.proofs.send.apply_level.Statement.{statement}
 use Rattle.track.proofs.send.apply_level.Tie as tie
 
 -- what the factors' array holds at first
 abbrev empty : List Float
-empty = replicate 256 (ofBits binary32 0)
+empty = replicate chunkFramesMost (ofBits binary32 0)
 
 abbrev Inv-loop : tie.InvT-loop
-Inv-loop out₀ frames parts table factors i₀ out i = (i ≤ frames) × (length out ≡ length out₀) × (out ≡ withFrames (scaledEach factors) i out₀)
+Inv-loop out₀ frames parts table factors i₀ out i = (i ≤ frames) × (length out ≡ length out₀) × (out ≡ withFirst (scratch 0 frames) (scaledEach factors) i out₀)
 
 abbrev μ-loop : tie.MeasureT-loop
 μ-loop out₀ frames parts table factors i₀ out i = frames - i
@@ -46,7 +49,7 @@ amplitudes-requires c κs =
     (pre .0, (pre .1 .1 .0, (pre .1 .0 .0, pre .1 .1 .1)))
 
 loop-holds : tie.Need-loop-holds Inv-loop μ-loop
-loop-holds c = (search needs, refl, sym (withFrames-zero _ _))
+loop-holds c = (search needs, refl, sym (first-zero (scratch 0 _) _ _))
 
 frame-at-requires : tie.Need-frame-at-requires Inv-loop μ-loop
 frame-at-requires c κs = search needs
@@ -77,7 +80,7 @@ loop-again c =
     let h = c .before .before .before .before .before .before .before .loop-test .taken in
     let inv = l .loop .inv in
     let factors = l .before .amplitudes .last .1 .1 .1 .1 .0 in
-    let e = withFrames-put (scaledEach factors) (l .loop .i) (args .out .now) (omega (arith, h, start .pre .1 .0 .1)) (inv .1) (inv .2) (c .before .before .before .before .scaled .ensures ∙ ap (λ (a : Frame). scaled a (factorOf factors (l .loop .i))) (c .before .before .before .before .before .frame-at .ensures)) (c .before .before .put-frame .ensures) in
+    let e = first-put (scratch 0 (args .frames)) (scaledEach factors) (l .loop .i) (args .out .now) (inv .1) (inv .2) (c .before .before .before .before .scaled .ensures ∙ ap (λ (a : Frame). scaled a (factorOf factors (l .loop .i))) (c .before .before .before .before .before .frame-at .ensures)) (c .before .before .put-frame .ensures) in
     (omega (arith, h, inv .0), e .0, e .1)
 
 same-length-2 : tie.Need-same-length-2 Inv-loop μ-loop
@@ -89,8 +92,8 @@ returns-2 c =
     let start = c .before .before .before .before .before .before .before in
     let args = start .args in
     let made = l .before .amplitudes in
-    withFrames-end (scaledEach (made .last .1 .1 .1 .1 .0)) (args .out .now) (omega (arith, c .loop-test .left, l .loop .inv .0)) (l .loop .inv .2)
-    ∙ level-each (args .frames) (start .pre .1 .0 .0) (args .level) (args .out .now) empty (length-replicate 256 (ofBits binary32 0)) (made .ensures)
+    first-end (scratch 0 (args .frames)) (scaledEach (made .last .1 .1 .1 .1 .0)) (args .out .now) (omega (arith, c .loop-test .left, l .loop .inv .0)) (l .loop .inv .2)
+    ∙ level-each (args .frames) (start .pre .1 .0 .0) (args .level) (args .out .now) empty (length-replicate chunkFramesMost (ofBits binary32 0)) (made .ensures)
 
 pub apply-level-spec : {M : Type 1} → statement M
 apply-level-spec =

@@ -1,16 +1,18 @@
+-- A loop that begins at a frame: its invariant is `withFirst` of the step from that frame on.
 use mathlib.Core.Path.{_≡_, refl, sym, ap₂, _∙_}
 use Prim.Native.Nat.{_-_, _≤_}
 use native.Mathlib.Omega.{arith}
 use lib.ListN.{length}
 use borrow.Author.Needs.{needs}
-use Rattle.frame.specs.Frame.{withFrames, placed, added, frameAt}
+use Rattle.frame.specs.Frame.{fromFrame, added}
+use Rattle.frame.specs.Layout.{scratch, frameAt, withFirst}
 use Rattle.track.specs.Sound.{addedZero}
-use Rattle.frame.proofs.laws.Frame.{withFrames-same, withFrames-put, withFrames-end, placed-in, placed-below}
+use Rattle.frame.proofs.laws.Layout.{first-same, first-put, first-end, from-on, from-before}
 use Rattle.track.proofs.sound.add_silence.Statement.{statement}
 use Rattle.track.proofs.sound.add_silence.Tie as tie
 
 abbrev Inv-loop : tie.InvT-loop
-Inv-loop to₀ first frames i₀ to i = (first ≤ i) × (i ≤ frames) × (length to ≡ length to₀) × (to ≡ withFrames (placed first (frames - first) addedZero) i to₀)
+Inv-loop to₀ first frames i₀ to i = (first ≤ i) × (i ≤ frames) × (length to ≡ length to₀) × (to ≡ withFirst (scratch 0 frames) (fromFrame first addedZero) i to₀)
 
 abbrev μ-loop : tie.MeasureT-loop
 μ-loop to₀ first frames i₀ to i = frames - i
@@ -18,8 +20,7 @@ abbrev μ-loop : tie.MeasureT-loop
 loop-holds : tie.Need-loop-holds Inv-loop μ-loop
 loop-holds c =
     let args = c .before .args in
-    let step = placed (args .first) (args .frames - args .first) addedZero in
-    (search needs, search needs, refl, sym (withFrames-same step (args .first) (args .to .now) (λ k h a. placed-below (args .first) (args .frames - args .first) addedZero k a h)))
+    (search needs, search needs, refl, sym (first-same (scratch 0 (args .frames)) (fromFrame (args .first) addedZero) (args .first) (args .to .now) (λ k h a. from-before (args .first) addedZero k a h)))
 
 frame-at-requires : tie.Need-frame-at-requires Inv-loop μ-loop
 frame-at-requires c κs = search needs
@@ -47,10 +48,8 @@ loop-again c =
     let h = c .before .before .before .before .before .before .before .before .loop-test .taken in
     let inv = l .loop .inv in
     let i = l .loop .i in
-    let rest = args .frames - args .first in
     let b = c .before .before .before .before .added .ensures ∙ ap₂ added (c .before .before .before .before .before .before .frame-at .ensures) (c .before .before .before .before .before .zero .ensures) in
-    let e = withFrames-put (placed (args .first) rest addedZero) i (args .to .now) (omega (arith, h, start .pre .0)) (inv .2) (inv .3)
-    (b ∙ sym (placed-in (args .first) rest addedZero i (frameAt (l .loop .to) i) (inv .0) (omega (arith, h)))) (c .before .before .put-frame .ensures) in
+    let e = first-put (scratch 0 (args .frames)) (fromFrame (args .first) addedZero) i (args .to .now) (inv .2) (inv .3) (b ∙ sym (from-on (args .first) addedZero i (frameAt (scratch 0 (args .frames)) (l .loop .to) i) (inv .0))) (c .before .before .put-frame .ensures) in
     (omega (arith, inv .0), omega (arith, h), e .0, e .1)
 
 same-length : tie.Need-same-length Inv-loop μ-loop
@@ -60,7 +59,7 @@ returns : tie.Need-returns Inv-loop μ-loop
 returns c =
     let l = c .before in
     let args = l .before .before .args in
-    withFrames-end (placed (args .first) (args .frames - args .first) addedZero) (args .to .now) (omega (arith, c .loop-test .left, l .loop .inv .1)) (l .loop .inv .3)
+    first-end (scratch 0 (args .frames)) (fromFrame (args .first) addedZero) (args .to .now) (omega (arith, c .loop-test .left, l .loop .inv .1)) (l .loop .inv .3)
 
 pub add-silence-spec : {M : Type 1} → statement M
 add-silence-spec =

@@ -26,7 +26,7 @@ returns-2 : tie.Need-returns-2
 returns-2 c =
     let start = c .before .before .before .before .before .before .before .before .before .before .before in
     let args = start .args in
-    sound-ends (args .samples .now) (args .sound) (args .frames) (args .to .now) (omega (arith, c .before .before .before .before .before .before .before .before .if1 .left)) (c .before .before .before .before .before .before .add-played2 .ensures) (c .before .before .add-silence .ensures)
+    sound-ends (args .samples .now) (args .sound) (args .frames) (args .to .now) (start .pre .0) (omega (arith, c .before .before .before .before .before .before .before .before .if1 .left)) (c .before .before .before .before .before .before .add-played2 .ensures) (c .before .before .add-silence .ensures)
 
 pub add-sound-spec : {M : Type 1} → statement M
 add-sound-spec =

@@ -1,3 +1,4 @@
+-- A loop that follows the links of a track's sounds: its invariant is `Follows` (`laws`, Owners).
 use mathlib.Core.Path.{_≡_, refl, sym, ap, _∙_, subst}
 use mathlib.Core.Bool.{cond}
 use mathlib.Core.List.{List}
@@ -9,10 +10,10 @@ use lib.Ieee.{Float}
 use borrow.Author.Needs.{needs}
 use Rattle.chunk.specs.declared.chunk.Chunk.{Chunk}
 use Rattle.chunk.specs.declared.chunk.ChunkSound.{ChunkSound}
-use Rattle.frame.specs.Frame.{withFrames}
+use Rattle.frame.specs.Layout.{scratch, withFrames}
 use Rattle.track.specs.Sound.{addedSound, withSounds}
-use Rattle.frame.proofs.laws.Frame.{Step}
-use Rattle.frame.proofs.laws.Turn.{turn-length, step-picked, step-left}
+use Rattle.frame.proofs.laws.Layout.{Step}
+use Rattle.frame.proofs.laws.Turn.{frames-steps, turn-length, step-picked, step-left}
 use Rattle.chunk.specs.Flat.{chunkFrom}
 use Rattle.track.specs.Owners.{soundLinks}
 use Rattle.track.proofs.laws.Owners.{Follows, Skips, follow-start, follow-less, follow-turn, follow-done}
@@ -27,36 +28,33 @@ step c samples line k i a = cond (eqb (soundRow c k .track) line) (addedSound sa
 abbrev owner : Chunk → ℕ → ℕ
 owner c k = soundRow c k .track
 
-skips : (c : Chunk) (samples : List Float) (line : ℕ) (begun : List Float) → Skips (step c samples line) (c .frames) (c .«sound_count») (owner c) line begun
-skips c samples line begun k d x = step-left (soundRow c k .track) line (addedSound samples (soundRow c k)) (c .frames) x d
+skips : (c : Chunk) (samples : List Float) (line : ℕ) (begun : List Float) → Skips (withFrames (scratch 0 (c .frames))) (step c samples line) (c .«sound_count») (owner c) line begun
+skips c samples line begun k d x = step-left (withFrames (scratch 0 (c .frames))) (soundRow c k .track) line (addedSound samples (soundRow c k)) x (frames-steps (scratch 0 (c .frames))) d
 
 abbrev Inv : Chunk → List Float → ℕ → List Float → List Float → ℕ → Type 0
-Inv c samples line begun to k = (length to ≡ length begun) × Follows (step c samples line) (c .frames) (c .«sound_count») (owner c) line begun to k
+Inv c samples line begun to k = (length to ≡ length begun) × Follows (withFrames (scratch 0 (c .frames))) (step c samples line) (c .«sound_count») (owner c) line begun to k
 
 abbrev Inv-loop : tie.InvT-loop
-Inv-loop to₀ samples places values links line frames k₀ to k = Inv (chunkFrom places values) samples line to₀ to k
+Inv-loop to₀ samples places levels amplitudes links line frames k₀ to k = Inv (chunkFrom places levels amplitudes) samples line to₀ to k
 
 abbrev μ-loop : tie.MeasureT-loop
-μ-loop to₀ samples places values links line frames k₀ to k = k
+μ-loop to₀ samples places levels amplitudes links line frames k₀ to k = k
 
 element-copy-out-frames : tie.Need-element-copy-out-frames Inv-loop μ-loop
 element-copy-out-frames c = search needs
 
-mul-k : tie.Need-mul-k Inv-loop μ-loop
-mul-k c = search needs
-
-element-copy-out-k : tie.Need-element-copy-out-k Inv-loop μ-loop
-element-copy-out-k c = search needs
+last-line-requires : tie.Need-last-line-requires Inv-loop μ-loop
+last-line-requires c κs = search needs
 
 loop-holds : tie.Need-loop-holds Inv-loop μ-loop
 unfolding soundLinks
 loop-holds c =
     let start = c .before .before .before .before in
     let args = start .args in
-    let chunk = chunkFrom (args .places .now) (args .values .now) in
+    let chunk = chunkFrom (args .places .now) (args .levels .now) (args .amplitudes .now) in
     let samples = args .samples .now in
     let to = args .to .now in
-    (refl, follow-start (step chunk samples (args .line)) (chunk .frames) (chunk .«sound_count») (owner chunk) (args .line) to (skips chunk samples (args .line) to) (start .pre .1 .1 .1) (start .pre .1 .0))
+    (refl, follow-start (withFrames (scratch 0 (chunk .frames))) (step chunk samples (args .line)) (chunk .«sound_count») (owner chunk) (args .line) to (skips chunk samples (args .line) to) (start .pre .1 .1 .1) (start .pre .1 .0) (c .last-line .ensures))
 
 sub-sound-at : tie.Need-sub-sound-at Inv-loop μ-loop
 sub-sound-at c = search needs
@@ -70,14 +68,8 @@ add-sound-requires c κs =
     let start = c .before .before .before .before .before .before .before .before in
     (omega (arith, l .loop .inv .0, start .pre .1 .1 .0), subst (λ (s : ChunkSound). 2 * (s .start + s .left) ≤ length (start .args .samples .now)) (sym (c .before .sound-at .ensures)) (start .pre .0 .held (l .loop .k - 1) (omega (arith, c .before .before .loop-test .taken, l .loop .inv .1 .few))))
 
-add-k : tie.Need-add-k Inv-loop μ-loop
-add-k c = search (needs, c .before .before .before .before .before .before .loop .inv .1 .few, c .before .before .before .before .before .before .before .before .before .before .before .pre .0 .sounds)
-
-mul-k-2 : tie.Need-mul-k-2 Inv-loop μ-loop
-mul-k-2 c = search needs
-
-element-copy-out-k-2 : tie.Need-element-copy-out-k-2 Inv-loop μ-loop
-element-copy-out-k-2 c = omega (arith, c .before .before .before .before .before .before .loop .inv .1 .few, c .before .before .before .before .before .before .before .before .before .before .before .pre .0 .sounds)
+line-before-requires : tie.Need-line-before-requires Inv-loop μ-loop
+line-before-requires c κs = search needs
 
 loop-less : tie.Need-loop-less Inv-loop μ-loop
 unfolding soundLinks
@@ -85,13 +77,13 @@ loop-less c =
     let l = c .before .before .before .before .before .before .before in
     let start = c .before .before .before .before .before .before .before .before .before .before .before .before in
     let args = start .args in
-    let chunk = chunkFrom (args .places .now) (args .values .now) in
+    let chunk = chunkFrom (args .places .now) (args .levels .now) (args .amplitudes .now) in
     let samples = args .samples .now in
     let k = l .loop .k in
     let h = c .before .before .before .before .before .before .loop-test .taken in
     let g = step chunk samples (args .line) in
     let to = args .to .now in
-    follow-less g (chunk .frames) (chunk .«sound_count») (owner chunk) (args .line) to k (l .loop .to) (start .pre .0 .sounds) (start .pre .1 .1 .1) (start .pre .1 .0) h (l .loop .inv .1)
+    follow-less (withFrames (scratch 0 (chunk .frames))) g (chunk .«sound_count») (owner chunk) (args .line) to k (l .loop .to) (start .pre .0 .sounds) (start .pre .1 .1 .1) (start .pre .1 .0) (c .line-before .ensures) h (l .loop .inv .1)
 
 loop-again : tie.Need-loop-again Inv-loop μ-loop
 unfolding soundLinks
@@ -99,7 +91,7 @@ loop-again c =
     let l = c .before .before .before .before .before .before .before in
     let start = c .before .before .before .before .before .before .before .before .before .before .before .before in
     let args = start .args in
-    let chunk = chunkFrom (args .places .now) (args .values .now) in
+    let chunk = chunkFrom (args .places .now) (args .levels .now) (args .amplitudes .now) in
     let samples = args .samples .now in
     let k = l .loop .k in
     let h = c .before .before .before .before .before .before .loop-test .taken in
@@ -107,10 +99,10 @@ loop-again c =
     let to = args .to .now in
     let sound = soundRow chunk (k - 1) in
     let e = c .before .before .before .add-sound .ensures
-    ∙ ap (λ (s : ChunkSound). withFrames (addedSound samples s) (chunk .frames) (l .loop .to)) (c .before .before .before .before .before .sound-at .ensures)
-    ∙ sym (step-picked (sound .track) (args .line) (addedSound samples sound) (chunk .frames) (l .loop .to) (l .loop .inv .1 .own h)) in (
-      turn-length g (chunk .frames) to (l .loop .to) (k - 1) (l .loop .inv .0) e,
-      follow-turn g (chunk .frames) (chunk .«sound_count») (owner chunk) (args .line) to k (l .loop .to) (skips chunk samples (args .line) to) (start .pre .0 .sounds) (start .pre .1 .1 .1) (start .pre .1 .0) h (l .loop .inv .1) e,
+    ∙ ap (λ (s : ChunkSound). withFrames (scratch 0 (chunk .frames)) (addedSound samples s) (l .loop .to)) (c .before .before .before .before .before .sound-at .ensures)
+    ∙ sym (step-picked (withFrames (scratch 0 (chunk .frames))) (sound .track) (args .line) (addedSound samples sound) (l .loop .to) (l .loop .inv .1 .own h)) in (
+      turn-length (withFrames (scratch 0 (chunk .frames))) (frames-steps (scratch 0 (chunk .frames))) (g (k - 1)) to (l .loop .to) (l .loop .inv .0) e,
+      follow-turn (withFrames (scratch 0 (chunk .frames))) g (chunk .«sound_count») (owner chunk) (args .line) to k (l .loop .to) (skips chunk samples (args .line) to) (start .pre .0 .sounds) (start .pre .1 .1 .1) (start .pre .1 .0) (c .line-before .ensures) h (l .loop .inv .1) e,
     )
 
 same-length : tie.Need-same-length Inv-loop μ-loop
@@ -120,9 +112,11 @@ returns : tie.Need-returns Inv-loop μ-loop
 unfolding withSounds
 returns c =
     let l = c .before in
-    let args = c .before .before .before .before .before .before .args in
-    let chunk = chunkFrom (args .places .now) (args .values .now) in
-    follow-done (step chunk (args .samples .now) (args .line)) (chunk .frames) (chunk .«sound_count») (owner chunk) (args .line) (args .to .now) (omega (arith, c .loop-test .left)) (l .loop .inv .1)
+    let start = c .before .before .before .before .before .before in
+    let args = start .args in
+    let chunk = chunkFrom (args .places .now) (args .levels .now) (args .amplitudes .now) in
+    let L = scratch 0 (chunk .frames) in
+    follow-done (withFrames L) (step chunk (args .samples .now) (args .line)) (chunk .«sound_count») (owner chunk) (args .line) (args .to .now) (frames-steps L) (omega (arith, start .pre .1 .1 .0)) (omega (arith, c .loop-test .left)) (l .loop .inv .1)
 
 pub add-sounds-spec : {M : Type 1} → statement M
 add-sounds-spec =
@@ -131,15 +125,12 @@ add-sounds-spec =
     Inv-loop
     μ-loop
     element-copy-out-frames
-    mul-k
-    element-copy-out-k
+    last-line-requires
     loop-holds
     sub-sound-at
     sound-at-requires
     add-sound-requires
-    add-k
-    mul-k-2
-    element-copy-out-k-2
+    line-before-requires
     loop-less
     loop-again
     same-length

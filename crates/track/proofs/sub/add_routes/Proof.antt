@@ -1,6 +1,8 @@
+-- A loop over the routes: its invariant is that of `upto` with a step on the send tracks' frames as its turn; a route of another track changes
+-- nothing.
 use mathlib.Core.Path.{_≡_, refl, sym, ap, _∙_}
 use mathlib.Core.Logic.{⊎-elim}
-use Prim.Native.Nat.{ℕ, _+_, _-_, _*_, _≤_, zero-le}
+use Prim.Native.Nat.{ℕ, _-_, _≤_, zero-le}
 use native.Mathlib.Omega.{arith}
 use lib.ListN.{length}
 use borrow.Author.Needs.{needs}
@@ -8,8 +10,11 @@ use mathlib.Core.List.{List}
 use lib.Ieee.{Float}
 use Rattle.laws.specs.Loop.{upto}
 use Rattle.laws.proofs.laws.Loop.{upto-zero}
-use Rattle.frame.specs.Frame.{withFrames, placed, addedScaled}
-use Rattle.track.specs.Sub.{sendFrames}
+use Rattle.frame.specs.declared.frame.Frame.{Frame}
+use Rattle.frame.specs.Frame.{addedScaled}
+use Rattle.frame.specs.Layout.{scratch, frameAt, withFrames}
+use Rattle.track.specs.Send.{sendLayout}
+use Rattle.track.proofs.laws.Send.{allSends, sends-steps}
 use Rattle.frame.proofs.laws.Turn.{turns, turn-length, up-turn, up-done}
 use Rattle.track.proofs.laws.Sub.{routeStep, route-taken, route-left, routes-done}
 use Rattle.chunk.specs.declared.chunk.Chunk.{Chunk}
@@ -18,14 +23,16 @@ use Rattle.chunk.specs.Flat.{chunkFrom}
 use Rattle.track.proofs.sub.add_routes.Statement.{statement}
 use Rattle.track.proofs.sub.add_routes.Tie as tie
 
-abbrev Inv : Chunk → ℕ → List Float → List Float → List Float → ℕ → Type 0
-Inv chunk line out sends₀ sends r = (r ≤ chunk .«route_count») × (length sends ≡ length sends₀) × (sends ≡ upto (turns (routeStep chunk line out) sendFrames) r sends₀)
+abbrev Inv : Chunk → ℕ → (ℕ → Frame) → List Float → List Float → ℕ → Type 0
+Inv chunk line given sends₀ sends r = (r ≤ chunk .«route_count») × (length sends ≡ length sends₀) × (sends ≡ upto (turns (allSends (chunk .frames)) (routeStep chunk line given)) r sends₀)
 
 abbrev Inv-loop : tie.InvT-loop
-Inv-loop sends₀ out places values samples line frames r₀ sends r = Inv (chunkFrom places values) line out sends₀ sends r
+Inv-loop sends₀ out places levels amplitudes samples line frames r₀ sends r =
+    let chunk = chunkFrom places levels amplitudes in
+    Inv chunk line (frameAt (scratch 0 (chunk .frames)) out) sends₀ sends r
 
 abbrev μ-loop : tie.MeasureT-loop
-μ-loop sends₀ out places values samples line frames r₀ sends r = chunkFrom places values .«route_count» - r
+μ-loop sends₀ out places levels amplitudes samples line frames r₀ sends r = chunkFrom places levels amplitudes .«route_count» - r
 
 element-copy-out-frames : tie.Need-element-copy-out-frames Inv-loop μ-loop
 element-copy-out-frames c = search needs
@@ -71,21 +78,21 @@ loop-again c =
     let l = c .before .before .before .before .before in
     let start = c .before .before .before .before .before .before .before .before .before .before in
     let args = start .args in
-    let chunk = chunkFrom (args .places .now) (args .values .now) in
-    let out = args .out .now in
+    let chunk = chunkFrom (args .places .now) (args .levels .now) (args .amplitudes .now) in
+    let given : ℕ → Frame = frameAt (scratch 0 (chunk .frames)) (args .out .now) in
     let r = l .loop .r in
     let inv = l .loop .inv in
     let h = c .before .before .before .if1 .taken in
     let read = c .before .before .route-at .ensures in
-    let g = routeStep chunk (args .line) out in
+    let g = routeStep chunk (args .line) given in
     let routed = start .pre .0 .routed r h in
-    let e : c .if2 .sends ≡ withFrames (g r) sendFrames (l .loop .sends) = ⊎-elim
+    let e : c .if2 .sends ≡ allSends (chunk .frames) (g r) (l .loop .sends) = ⊎-elim
     (λ w. w .7 ∙ w .4 .ensures
-    ∙ ap (λ (x : ChunkRoute). withFrames (placed ((x .send - 1) * 256) (chunk .frames) (addedScaled out (x .amplitude))) ((x .send - 1) * 256 + chunk .frames) (l .loop .sends)) read
-    ∙ route-taken chunk (args .line) out r (l .loop .sends) (ap (λ (x : ChunkRoute). x .track) (sym read) ∙ w .0 .taken) (routed .0) (routed .1) (start .pre .0 .short))
-    (λ w. w .1 ∙ sym (route-left chunk (args .line) out r (l .loop .sends) (λ q. w .0 .left (ap (λ (x : ChunkRoute). x .track) read ∙ q))))
+    ∙ ap (λ (x : ChunkRoute). withFrames (sendLayout (x .send - 1) (chunk .frames)) (addedScaled given (x .amplitude)) (l .loop .sends)) read
+    ∙ route-taken chunk (args .line) given r (l .loop .sends) (ap (λ (x : ChunkRoute). x .track) (sym read) ∙ w .0 .taken) (routed .0) (routed .1))
+    (λ w. w .1 ∙ sym (route-left chunk (args .line) given r (l .loop .sends) (λ q. w .0 .left (ap (λ (x : ChunkRoute). x .track) read ∙ q))))
     (c .if2 .came) in
-    (omega (arith, h), turn-length g sendFrames (args .sends .now) (l .loop .sends) r (inv .1) e, up-turn g sendFrames (args .sends .now) (l .loop .sends) r (inv .2) e)
+    (omega (arith, h), turn-length (allSends (chunk .frames)) (sends-steps (chunk .frames) (start .pre .0 .short)) (g r) (args .sends .now) (l .loop .sends) (inv .1) e, up-turn (allSends (chunk .frames)) g (args .sends .now) (l .loop .sends) r (inv .2) e)
 
 same-length : tie.Need-same-length Inv-loop μ-loop
 same-length c = search needs
@@ -93,10 +100,13 @@ same-length c = search needs
 returns : tie.Need-returns Inv-loop μ-loop
 returns c =
     let l = c .before .before in
-    let args = c .before .before .before .before .before .before .before .args in
-    let chunk = chunkFrom (args .places .now) (args .values .now) in
-    up-done (routeStep chunk (args .line) (args .out .now)) sendFrames (chunk .«route_count») (args .sends .now) (omega (arith, c .if1 .left, l .loop .inv .0)) (l .loop .inv .2)
-    ∙ routes-done chunk (args .line) (args .out .now) (args .sends .now)
+    let start = c .before .before .before .before .before .before .before in
+    let args = start .args in
+    let chunk = chunkFrom (args .places .now) (args .levels .now) (args .amplitudes .now) in
+    let given : ℕ → Frame = frameAt (scratch 0 (chunk .frames)) (args .out .now) in
+    let n = chunk .frames in
+    up-done (allSends n) (sends-steps n (start .pre .0 .short)) (routeStep chunk (args .line) given) (chunk .«route_count») (args .sends .now) (omega (arith, start .pre .1 .1)) (omega (arith, c .if1 .left, l .loop .inv .0)) (l .loop .inv .2)
+    ∙ routes-done chunk (args .line) given (args .sends .now)
 
 pub add-routes-spec : {M : Type 1} → statement M
 add-routes-spec =

@@ -1,3 +1,4 @@
+-- The factors of volume and fade are made, and a loop scales each frame by the product of its two (`laws`, Steady).
 use mathlib.Core.Path.{_≡_, refl, sym, ap, _∙_}
 use mathlib.Core.List.{List}
 use Prim.Native.Nat.{_-_, _≤_}
@@ -5,19 +6,21 @@ use native.Mathlib.Omega.{arith}
 use lib.ListN.{length, replicate, length-replicate}
 use lib.Ieee.{Float, binary32, ofBits}
 use borrow.Author.Needs.{needs}
+use Rattle.limits.specs.Limits.{chunkFramesMost}
 use Rattle.frame.specs.declared.frame.Frame.{Frame}
-use Rattle.frame.specs.Frame.{withFrames, scaled}
-use Rattle.frame.proofs.laws.Frame.{withFrames-zero, withFrames-put, withFrames-end}
+use Rattle.frame.specs.Frame.{scaled}
+use Rattle.frame.specs.Layout.{scratch, withFirst}
+use Rattle.frame.proofs.laws.Layout.{first-zero, first-put, first-end}
 use Rattle.track.proofs.laws.Steady.{product, factorOf, scaledTwice, track-each}
 use Rattle.track.proofs.sub.apply_moving.Statement.{statement}
 use Rattle.track.proofs.sub.apply_moving.Tie as tie
 
 -- what the factors' array holds at first
 abbrev empty : List Float
-empty = replicate 256 (ofBits binary32 0)
+empty = replicate chunkFramesMost (ofBits binary32 0)
 
 abbrev Inv-loop : tie.InvT-loop
-Inv-loop out₀ frames parts table volumes fades i₀ out i = (i ≤ frames) × (length out ≡ length out₀) × (out ≡ withFrames (scaledTwice volumes fades) i out₀)
+Inv-loop out₀ frames parts table volumes fades i₀ out i = (i ≤ frames) × (length out ≡ length out₀) × (out ≡ withFirst (scratch 0 frames) (scaledTwice volumes fades) i out₀)
 
 abbrev μ-loop : tie.MeasureT-loop
 μ-loop out₀ frames parts table volumes fades i₀ out i = frames - i
@@ -33,7 +36,7 @@ amplitudes-requires-2 c κs =
     (pre .0, (pre .1 .1 .0 .1, (pre .1 .0 .0, pre .1 .1 .1)))
 
 loop-holds : tie.Need-loop-holds Inv-loop μ-loop
-loop-holds c = (search needs, refl, sym (withFrames-zero _ _))
+loop-holds c = (search needs, refl, sym (first-zero (scratch 0 _) _ _))
 
 frame-at-requires : tie.Need-frame-at-requires Inv-loop μ-loop
 frame-at-requires c κs = search needs
@@ -71,7 +74,7 @@ loop-again c =
     let inv = l .loop .inv in
     let volumes = l .before .before .before .amplitudes .last .1 .1 .1 .1 .0 in
     let fades = l .before .amplitudes2 .last .1 .1 .1 .1 .0 in
-    let e = withFrames-put (scaledTwice volumes fades) (l .loop .i) (args .out .now) (omega (arith, h, start .pre .1 .0 .1)) (inv .1) (inv .2) (c .before .before .before .before .scaled .ensures ∙ ap (λ (a : Frame). scaled a (product (factorOf volumes (l .loop .i)) (factorOf fades (l .loop .i)))) (c .before .before .before .before .before .frame-at .ensures)) (c .before .before .put-frame .ensures) in
+    let e = first-put (scratch 0 (args .frames)) (scaledTwice volumes fades) (l .loop .i) (args .out .now) (inv .1) (inv .2) (c .before .before .before .before .scaled .ensures ∙ ap (λ (a : Frame). scaled a (product (factorOf volumes (l .loop .i)) (factorOf fades (l .loop .i)))) (c .before .before .before .before .before .frame-at .ensures)) (c .before .before .put-frame .ensures) in
     (omega (arith, h, inv .0), e .0, e .1)
 
 same-length : tie.Need-same-length Inv-loop μ-loop
@@ -84,8 +87,8 @@ returns c =
     let args = start .args in
     let volumes = l .before .before .before .amplitudes in
     let fades = l .before .amplitudes2 in
-    withFrames-end (scaledTwice (volumes .last .1 .1 .1 .1 .0) (fades .last .1 .1 .1 .1 .0)) (args .out .now) (omega (arith, c .loop-test .left, l .loop .inv .0)) (l .loop .inv .2)
-    ∙ track-each (args .frames) (start .pre .1 .0 .0) (args .track) (args .out .now) empty (length-replicate 256 (ofBits binary32 0)) (volumes .ensures) (fades .ensures)
+    first-end (scratch 0 (args .frames)) (scaledTwice (volumes .last .1 .1 .1 .1 .0) (fades .last .1 .1 .1 .1 .0)) (args .out .now) (omega (arith, c .loop-test .left, l .loop .inv .0)) (l .loop .inv .2)
+    ∙ track-each (args .frames) (start .pre .1 .0 .0) (args .track) (args .out .now) empty (length-replicate chunkFramesMost (ofBits binary32 0)) (volumes .ensures) (fades .ensures)
 
 pub apply-moving-spec : {M : Type 1} → statement M
 apply-moving-spec =

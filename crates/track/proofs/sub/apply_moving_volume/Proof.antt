@@ -1,3 +1,4 @@
+-- The factors of the volume are made, and a loop scales each frame by its factor times the fade's one amplitude (`laws`, Steady).
 use mathlib.Core.Path.{_≡_, refl, sym, ap, _∙_}
 use mathlib.Core.List.{List}
 use Prim.Native.Nat.{_-_, _≤_}
@@ -5,19 +6,21 @@ use native.Mathlib.Omega.{arith}
 use lib.ListN.{length, replicate, length-replicate}
 use lib.Ieee.{Float, binary32, ofBits}
 use borrow.Author.Needs.{needs}
+use Rattle.limits.specs.Limits.{chunkFramesMost}
 use Rattle.frame.specs.declared.frame.Frame.{Frame}
-use Rattle.frame.specs.Frame.{withFrames, scaled}
-use Rattle.frame.proofs.laws.Frame.{withFrames-zero, withFrames-put, withFrames-end}
+use Rattle.frame.specs.Frame.{scaled}
+use Rattle.frame.specs.Layout.{scratch, withFirst}
+use Rattle.frame.proofs.laws.Layout.{first-zero, first-put, first-end}
 use Rattle.track.proofs.laws.Steady.{product, factorOf, scaledEachBy, volume-each}
 use Rattle.track.proofs.sub.apply_moving_volume.Statement.{statement}
 use Rattle.track.proofs.sub.apply_moving_volume.Tie as tie
 
 -- what the factors' array holds at first
 abbrev empty : List Float
-empty = replicate 256 (ofBits binary32 0)
+empty = replicate chunkFramesMost (ofBits binary32 0)
 
 abbrev Inv-loop : tie.InvT-loop
-Inv-loop out₀ frames parts table by factors i₀ out i = (i ≤ frames) × (length out ≡ length out₀) × (out ≡ withFrames (scaledEachBy factors by) i out₀)
+Inv-loop out₀ frames parts table by factors i₀ out i = (i ≤ frames) × (length out ≡ length out₀) × (out ≡ withFirst (scratch 0 frames) (scaledEachBy factors by) i out₀)
 
 abbrev μ-loop : tie.MeasureT-loop
 μ-loop out₀ frames parts table by factors i₀ out i = frames - i
@@ -31,7 +34,7 @@ amplitudes-requires c κs =
     (pre .0, (pre .1 .1 .0 .0, (pre .1 .0 .0, pre .1 .1 .1 .0)))
 
 loop-holds : tie.Need-loop-holds Inv-loop μ-loop
-loop-holds c = (search needs, refl, sym (withFrames-zero _ _))
+loop-holds c = (search needs, refl, sym (first-zero (scratch 0 _) _ _))
 
 frame-at-requires : tie.Need-frame-at-requires Inv-loop μ-loop
 frame-at-requires c κs = search needs
@@ -63,7 +66,7 @@ loop-again c =
     let inv = l .loop .inv in
     let by = l .before .before .before .steady-amplitude .result in
     let factors = l .before .amplitudes .last .1 .1 .1 .1 .0 in
-    let e = withFrames-put (scaledEachBy factors by) (l .loop .i) (args .out .now) (omega (arith, h, start .pre .1 .0 .1)) (inv .1) (inv .2) (c .before .before .before .before .scaled .ensures ∙ ap (λ (a : Frame). scaled a (product (factorOf factors (l .loop .i)) by)) (c .before .before .before .before .before .before .frame-at .ensures)) (c .before .before .put-frame .ensures) in
+    let e = first-put (scratch 0 (args .frames)) (scaledEachBy factors by) (l .loop .i) (args .out .now) (inv .1) (inv .2) (c .before .before .before .before .scaled .ensures ∙ ap (λ (a : Frame). scaled a (product (factorOf factors (l .loop .i)) by)) (c .before .before .before .before .before .before .frame-at .ensures)) (c .before .before .put-frame .ensures) in
     (omega (arith, h, inv .0), e .0, e .1)
 
 same-length : tie.Need-same-length Inv-loop μ-loop
@@ -76,8 +79,8 @@ returns c =
     let args = start .args in
     let made = l .before .amplitudes in
     let by = l .before .before .before .steady-amplitude in
-    withFrames-end (scaledEachBy (made .last .1 .1 .1 .1 .0) (by .result)) (args .out .now) (omega (arith, c .loop-test .left, l .loop .inv .0)) (l .loop .inv .2)
-    ∙ volume-each (args .frames) (start .pre .1 .0 .0) (args .track) (args .out .now) empty (start .pre .1 .1 .1 .1) (start .pre .1 .1 .0 .1) (by .ensures) (length-replicate 256 (ofBits binary32 0)) (made .ensures)
+    first-end (scratch 0 (args .frames)) (scaledEachBy (made .last .1 .1 .1 .1 .0) (by .result)) (args .out .now) (omega (arith, c .loop-test .left, l .loop .inv .0)) (l .loop .inv .2)
+    ∙ volume-each (args .frames) (start .pre .1 .0 .0) (args .track) (args .out .now) empty (start .pre .1 .1 .1 .1) (start .pre .1 .1 .0 .1) (by .ensures) (length-replicate chunkFramesMost (ofBits binary32 0)) (made .ensures)
 
 pub apply-moving-volume-spec : {M : Type 1} → statement M
 apply-moving-volume-spec =

@@ -1,3 +1,4 @@
+-- Three ways to scale by volume times fade, by whether each stands still: each comes to `trackScaled` (`laws`, Steady).
 use mathlib.Core.Path.{sym, _∙_}
 use borrow.Author.Needs.{needs}
 use Rattle.track.proofs.laws.Steady.{track-steady}

@@ -8,13 +8,13 @@ amplitudes-requires c κs =
     let start = c .before .before .before in
     let args = start .args in
     let pre = start .pre in
-    (pre .0, (pre .1 .1 .0, λ i h. parts-admitted (args .frames) i (args .parts .now) (pre .1 .1 .1) h (args .self) (pre .1 .1 .0) (pre .1 .0)))
+    (pre .0, (pre .1 .1 .0, λ i h. parts-admitted (args .frames) i (args .parts .now) (pre .1 .1 .1) (pre .1 .1 .0) h (args .self) (pre .1 .0)))
 
 returns : tie.Need-returns
 returns c =
     let start = c .before .before .before .before in
     let args = start .args in
-    c .amplitudes .ensures ∙ factors-are (args .self) (args .frames) (args .parts .now) (args .factors .now) (start .pre .1 .1 .1)
+    c .amplitudes .ensures ∙ factors-are (args .self) (args .frames) (args .parts .now) (args .factors .now) (start .pre .1 .1 .1) (start .pre .1 .1 .0)
 
 pub amplitudes-spec : {M : Type 1} → statement M
 amplitudes-spec = tie.close (tie.spec amplitudes-requires returns)

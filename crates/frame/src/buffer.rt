@@ -1,0 +1,94 @@
+// Buffers of frames: slices of f32. Of a sample buffer left and right stand in turn; how the frames of
+// a chunk stand in what tracks are mixed in is the layout `scratch`, and only `frame_at` and
+// `put_frame` know it.
+ghost use mathlib.Core.Path.{_≡_};
+ghost use Prim.Native.Nat.{_+_, _*_, _≤_, _<_};
+ghost use lib.ListN.{length};
+ghost use Rattle.frame.specs.Frame.{sampleFrame, cleared, addedFrom, addedScaled, scaledBy};
+ghost use Rattle.frame.specs.Layout.{scratch, frameAt, putFrame, withFrames};
+use crate::frame::Frame;
+use decibels::Amplitude;
+
+pub fn sample_frame(samples: &[f32], k: usize) -> Frame
+    requires { ⌜ 2 * k + 1 < length (now samples) ⌝ }
+    ensures { λ r. ⌜ r ≡ sampleFrame (now (samples .entry)) k ⌝ }
+{
+    Frame {
+        left: samples[2 * k],
+        right: samples[2 * k + 1],
+    }
+}
+
+// Frame i of the `frames` frames that stand in the buffer from place `first` on.
+pub fn frame_at(buffer: &[f32], first: usize, frames: usize, i: usize) -> Frame
+    requires { ⌜ i < frames ⌝ }
+    requires { ⌜ first + 2 * frames ≤ length (now buffer) ⌝ }
+    ensures { λ r. ⌜ r ≡ frameAt (scratch first frames) (now (buffer .entry)) i ⌝ }
+{
+    Frame {
+        left: buffer[first + 2 * i],
+        right: buffer[first + 2 * i + 1],
+    }
+}
+
+pub fn put_frame(buffer: &mut [f32], first: usize, frames: usize, i: usize, frame: Frame)
+    requires { ⌜ i < frames ⌝ }
+    requires { ⌜ first + 2 * frames ≤ length (now buffer) ⌝ }
+    ensures { λ _. ⌜ now (buffer .exit) ≡ putFrame (scratch first frames) (now (buffer .entry)) i frame ⌝ }
+{
+    buffer[first + 2 * i] = frame.left;
+    buffer[first + 2 * i + 1] = frame.right;
+}
+
+pub fn clear(buffer: &mut [f32], frames: usize)
+    requires { ⌜ 2 * frames ≤ length (now buffer) ⌝ }
+    ensures { λ _. ⌜ now (buffer .exit) ≡ withFrames (scratch 0 frames) cleared (now (buffer .entry)) ⌝ }
+{
+    let mut i = 0;
+    while i < frames {
+        put_frame(buffer, 0, frames, i, Frame::zero());
+        i += 1;
+    }
+}
+
+// Adds each frame of `from` onto that of `to`.
+pub fn add_frames(to: &mut [f32], from: &[f32], frames: usize)
+    requires { ⌜ 2 * frames ≤ length (now to) ⌝ }
+    requires { ⌜ 2 * frames ≤ length (now from) ⌝ }
+    ensures { λ _. ⌜ now (to .exit) ≡ withFrames (scratch 0 frames) (addedFrom (frameAt (scratch 0 frames) (now (from .entry)))) (now (to .entry)) ⌝ }
+{
+    let mut i = 0;
+    while i < frames {
+        let sum = frame_at(to, 0, frames, i).added(frame_at(from, 0, frames, i));
+        put_frame(to, 0, frames, i, sum);
+        i += 1;
+    }
+}
+
+// Adds each frame of `from`, scaled, onto that of `to`, whose frames stand from place `first` on.
+pub fn add_scaled(to: &mut [f32], first: usize, from: &[f32], frames: usize, factor: Amplitude)
+    requires { ⌜ first + 2 * frames ≤ length (now to) ⌝ }
+    requires { ⌜ 2 * frames ≤ length (now from) ⌝ }
+    ensures { λ _. ⌜ now (to .exit) ≡ withFrames (scratch first frames)
+        (addedScaled (frameAt (scratch 0 frames) (now (from .entry))) factor) (now (to .entry)) ⌝ }
+{
+    let mut i = 0;
+    while i < frames {
+        let sum = frame_at(to, first, frames, i).added(frame_at(from, 0, frames, i).scaled(factor));
+        put_frame(to, first, frames, i, sum);
+        i += 1;
+    }
+}
+
+// Scales each frame by one factor.
+pub fn scale(out: &mut [f32], frames: usize, factor: Amplitude)
+    requires { ⌜ 2 * frames ≤ length (now out) ⌝ }
+    ensures { λ _. ⌜ now (out .exit) ≡ withFrames (scratch 0 frames) (scaledBy factor) (now (out .entry)) ⌝ }
+{
+    let mut i = 0;
+    while i < frames {
+        let frame = frame_at(out, 0, frames, i).scaled(factor);
+        put_frame(out, 0, frames, i, frame);
+        i += 1;
+    }
+}

@@ -1,0 +1,696 @@
+-- A track's recursion: `gather` leaves the track's sum, by a loop that follows the links of the tracks below it and calls `process` for each, and
+-- `process` scales what was gathered, sends it and adds it. Each call goes one level down, or from a track to what is below it: the measure is twice the
+-- levels left, and one more in `gather`.
+use mathlib.Core.Path.{_≡_, refl, sym, ap, _∙_, subst}
+use mathlib.Core.List.{List}
+use Prim.Native.Nat.{ℕ, suc, _+_, _-_, _*_, _≤_, _<_}
+use native.Mathlib.Omega.{arith}
+use lib.ListN.{length, replicate}
+use lib.Ieee.{Float, ofBits, ofInt}
+use borrow.Author.Needs.{needs}
+use borrow.Author.Tests.{not-true, not-false}
+use Rattle.limits.specs.Limits.{trackPlaces, chunkFramesMost}
+use Rattle.links.specs.Links.{lines}
+use Rattle.chunk.specs.declared.chunk.Chunk.{Chunk}
+use Rattle.chunk.specs.declared.chunk.ChunkTrack.{ChunkTrack}
+use Rattle.chunk.specs.declared.chunk.Level.{Level}
+use Rattle.frame.specs.Frame.{zeroSample}
+use Rattle.frame.specs.Layout.{scratch, withFrames}
+use Rattle.frame.specs.Running.{AllRunning}
+use Rattle.chunk.specs.Chunk.{LevelInRange, trackRow}
+use Rattle.chunk.specs.Flat.{chunkFrom}
+use Rattle.track.specs.Owners.{subTrackLinks}
+use Rattle.track.specs.Sub.{trackScaled, sumSet, withSubSends}
+use Rattle.frame.proofs.laws.Layout.{kept}
+use Rattle.frame.proofs.laws.Turn.{frames-steps, turn-length}
+use Rattle.track.proofs.laws.Running.{zero-silent, running-silent, running-track}
+use Rattle.track.proofs.laws.Send.{allSends, sends-steps, onSends-length}
+use Rattle.track.proofs.laws.Owners.{Follows, follow-start, follow-less, follow-turn, follow-done}
+use Rattle.track.proofs.laws.Sub.{subStep, subSend, sub-taken, sub-left, send-taken, send-left, sub-done, send-done}
+use Rattle.track.proofs.laws.Sub.{sum-gathered, track-added, track-mixed, track-stopped, track-none, sends-mixed, sends-stopped, sends-none}
+use borrow.Fn.Kinds.{In}
+use borrow.Fn.PlainCycle.{Measures, is, falls, and}
+use Rattle.track.proofs.sub.gather.Reads as gather
+use Rattle.track.proofs.sub.gather.Kinds as gather-kinds
+use Rattle.track.proofs.sub.+gather+process.Lts-gather as gather-lts
+use Rattle.track.proofs.sub.process.Reads as process
+use Rattle.track.proofs.sub.process.Kinds as process-kinds
+use Rattle.track.proofs.sub.+gather+process.Lts-process as process-lts
+use Rattle.chunk.proofs.track_at.Reads as track-at-reads
+use Rattle.frame.proofs.add_frames.Reads as add-frames-reads
+use Rattle.links.proofs.last_line.Reads as last-line-reads
+use Rattle.links.proofs.line_before.Reads as line-before-reads
+use Rattle.track.proofs.sound.add_sounds.Reads as add-sounds-reads
+use Rattle.track.proofs.sub.add_routes.Reads as add-routes-reads
+use Rattle.track.proofs.sub.apply_volume.Reads as apply-volume-reads
+use Rattle.track.proofs.sub.+gather+process.{statement}
+use Rattle.track.proofs.sub.+gather+process.Tie.{close}
+
+-- what a track is mixed in
+abbrev scratchPlaces : ℕ
+scratchPlaces = 2 * chunkFramesMost
+
+abbrev silent : List Float
+silent = replicate scratchPlaces zeroSample
+
+abbrev parent : Chunk → ℕ → ℕ
+parent c k = trackRow c k .parent
+
+abbrev Inv : Chunk → List Float → ℕ → ℕ → List Float → List Float → List Float → List Float → ℕ → Type 0
+Inv chunk samples line d out₀ sends₀ out sends j =
+    (length out ≡ length out₀)
+    × (length sends ≡ length sends₀)
+    × Follows (withFrames (scratch 0 (chunk .frames))) (subStep d chunk samples line) (chunk .«track_count») (parent chunk) line out₀ out j
+    × Follows (allSends (chunk .frames)) (subSend d chunk samples line) (chunk .«track_count») (parent chunk) line sends₀ sends j
+    × AllRunning (chunk .frames) out
+
+abbrev μ-gather : Measures 10 gather-kinds.ps ℕ
+μ-gather κs a = 2 * a .1 .1 .1 .1 .1 .1 .1 .1 .1 .0 + 1
+
+abbrev μ-process : Measures 10 process-kinds.ps ℕ
+μ-process κs a = 2 * a .1 .1 .1 .1 .1 .1 .1 .1 .1 .0
+
+abbrev gather-at : ℕ → In 10 gather-kinds.ps
+gather-at t = and 10 gather-kinds.ps (is 10 gather-kinds.ps μ-gather t) gather.Pre
+
+abbrev gather-below : ℕ → In 10 gather-kinds.ps
+gather-below t = and 10 gather-kinds.ps (falls 10 gather-kinds.ps _<_ μ-gather t) gather.Pre
+
+abbrev process-at : ℕ → In 10 process-kinds.ps
+process-at t = and 10 process-kinds.ps (is 10 process-kinds.ps μ-process t) process.Pre
+
+abbrev process-below : ℕ → In 10 process-kinds.ps
+process-below t = and 10 process-kinds.ps (falls 10 process-kinds.ps _<_ μ-process t) process.Pre
+
+abbrev gather-Inv-loop : gather-lts.InvT-loop
+gather-Inv-loop places levels amplitudes sub-tracks sounds parts table samples line depth out₀ sends₀ j₀ out sends j =
+    Inv (chunkFrom places levels amplitudes) samples line depth out₀ sends₀ out sends j
+
+abbrev gather-μ-loop : gather-lts.MeasureT-loop
+gather-μ-loop places levels amplitudes sub-tracks sounds parts table samples line depth out₀ sends₀ j₀ out sends j =
+    j
+
+gather-last-line-requires : (t : ℕ) → gather-lts.Need-last-line-requires (
+  last-line-reads.Asked,
+  last-line-reads.Learnt,
+  process-below t,
+  process.Post,
+  line-before-reads.Asked,
+  line-before-reads.Learnt,
+  add-sounds-reads.Asked,
+  add-sounds-reads.Learnt,
+) (gather-at t) gather.Post gather-Inv-loop gather-μ-loop
+gather-last-line-requires t c κs = omega (arith, c .before .before .before .pre .1 .1 .1 .1 .1 .0 .1, c .before .before .before .pre .1 .1 .0 .tracks)
+
+gather-loop-holds : (t : ℕ) → gather-lts.Need-loop-holds (
+  last-line-reads.Asked,
+  last-line-reads.Learnt,
+  process-below t,
+  process.Post,
+  line-before-reads.Asked,
+  line-before-reads.Learnt,
+  add-sounds-reads.Asked,
+  add-sounds-reads.Learnt,
+) (gather-at t) gather.Post gather-Inv-loop gather-μ-loop
+unfolding subTrackLinks
+gather-loop-holds t c =
+    let start = c .before .before .before .before in
+    let args = start .args in
+    let chunk = chunkFrom (args .places .now) (args .levels .now) (args .amplitudes .now) in
+    let samples = args .samples .now in
+    let n = chunk .frames in
+    let L = scratch 0 n in
+    let line = args .line in
+    let ok = start .pre .1 .1 .0 in
+    let d = args .depth in
+    let owned = start .pre .1 .1 .1 .0 .0 in
+    let few : line ≤ trackPlaces = omega (arith, start .pre .1 .1 .1 .1 .1 .0 .1, ok .tracks) in
+    let out = args .out .now in
+    let sends = args .sends .now in (
+      refl,
+      refl,
+      follow-start (withFrames L) (subStep d chunk samples line) (chunk .«track_count») (parent chunk) line out (sub-left d chunk samples line) few owned (c .last-line .ensures),
+      follow-start (allSends n) (subSend d chunk samples line) (chunk .«track_count») (parent chunk) line sends (send-left d chunk samples line) few owned (c .last-line .ensures),
+      running-silent n out (start .pre .1 .1 .1 .1 .1 .1 .1 .1),
+    )
+
+gather-process-requires : (t : ℕ) → gather-lts.Need-process-requires (
+  last-line-reads.Asked,
+  last-line-reads.Learnt,
+  process-below t,
+  process.Post,
+  line-before-reads.Asked,
+  line-before-reads.Learnt,
+  add-sounds-reads.Asked,
+  add-sounds-reads.Learnt,
+) (gather-at t) gather.Post gather-Inv-loop gather-μ-loop
+gather-process-requires t c κs =
+    let start = c .before .before .before .before .before .before .before .before in
+    let l = c .before .before .before in
+    let inv = l .loop .inv in
+    let pre = start .pre .1 in
+    let long = start .pre .1 .1 .1 .1 .1 .1 .0 in
+    (omega (arith, start .pre .0), (pre .0, (pre .1 .0, (pre .1 .1 .0, (pre .1 .1 .1 .0, ((c .before .before .loop-test .taken, inv .2 .few), (omega (arith, long, inv .0), (inv .1 ∙ start .pre .1 .1 .1 .1 .1 .1 .1 .0, inv .4))))))))
+
+gather-line-before-requires : (t : ℕ) → gather-lts.Need-line-before-requires (
+  last-line-reads.Asked,
+  last-line-reads.Learnt,
+  process-below t,
+  process.Post,
+  line-before-reads.Asked,
+  line-before-reads.Learnt,
+  add-sounds-reads.Asked,
+  add-sounds-reads.Learnt,
+) (gather-at t) gather.Post gather-Inv-loop gather-μ-loop
+gather-line-before-requires t c κs = (c .before .before .before .before .before .before .before .loop-test .taken, omega (arith, c .before .before .before .before .before .before .before .before .loop .inv .2 .few, c .before .before .before .before .before .before .before .before .before .before .before .before .before .pre .1 .1 .0 .tracks))
+
+gather-loop-less : (t : ℕ) → gather-lts.Need-loop-less (
+  last-line-reads.Asked,
+  last-line-reads.Learnt,
+  process-below t,
+  process.Post,
+  line-before-reads.Asked,
+  line-before-reads.Learnt,
+  add-sounds-reads.Asked,
+  add-sounds-reads.Learnt,
+) (gather-at t) gather.Post gather-Inv-loop gather-μ-loop
+unfolding subTrackLinks
+gather-loop-less t c =
+    let start = c .before .before .before .before .before .before .before .before .before .before .before .before .before .before in
+    let args = start .args in
+    let chunk = chunkFrom (args .places .now) (args .levels .now) (args .amplitudes .now) in
+    let samples = args .samples .now in
+    let n = chunk .frames in
+    let L = scratch 0 n in
+    let line = args .line in
+    let ok = start .pre .1 .1 .0 in
+    let d = args .depth in
+    let l = c .before .before .before .before .before .before .before .before .before in
+    let j = l .loop .j in
+    let inv = l .loop .inv in
+    let h = c .before .before .before .before .before .before .before .before .loop-test .taken in
+    let owned = start .pre .1 .1 .1 .0 .0 in
+    let room : chunk .«track_count» ≤ lines = omega (arith, ok .tracks) in
+    let few : line ≤ trackPlaces = omega (arith, start .pre .1 .1 .1 .1 .1 .0 .1, ok .tracks) in
+    let at = c .line-before .ensures in
+    follow-less (withFrames L) (subStep d chunk samples line) (chunk .«track_count») (parent chunk) line (args .out .now) j (l .loop .out) room few owned at h (inv .2)
+
+gather-loop-again : (t : ℕ) → gather-lts.Need-loop-again (
+  last-line-reads.Asked,
+  last-line-reads.Learnt,
+  process-below t,
+  process.Post,
+  line-before-reads.Asked,
+  line-before-reads.Learnt,
+  add-sounds-reads.Asked,
+  add-sounds-reads.Learnt,
+) (gather-at t) gather.Post gather-Inv-loop gather-μ-loop
+unfolding subTrackLinks
+gather-loop-again t c =
+    let start = c .before .before .before .before .before .before .before .before .before .before .before .before .before .before in
+    let args = start .args in
+    let chunk = chunkFrom (args .places .now) (args .levels .now) (args .amplitudes .now) in
+    let samples = args .samples .now in
+    let n = chunk .frames in
+    let L = scratch 0 n in
+    let line = args .line in
+    let ok = start .pre .1 .1 .0 in
+    let d = args .depth in
+    let l = c .before .before .before .before .before .before .before .before .before in
+    let j = l .loop .j in
+    let inv = l .loop .inv in
+    let h = c .before .before .before .before .before .before .before .before .loop-test .taken in
+    let owned = start .pre .1 .1 .1 .0 .0 in
+    let room : chunk .«track_count» ≤ lines = omega (arith, ok .tracks) in
+    let few : line ≤ trackPlaces = omega (arith, start .pre .1 .1 .1 .1 .1 .0 .1, ok .tracks) in
+    let at = c .line-before .ensures in
+    let g = subStep d chunk samples line in
+    let q = subSend d chunk samples line in
+    let out = args .out .now in
+    let sends = args .sends .now in
+    let made = c .before .before .before .before .before .process .ensures in
+    let e = made .0 ∙ sub-taken d chunk samples line j (l .loop .out) h (inv .2 .own h) in
+    let f = made .1 ∙ send-taken d chunk samples line j (l .loop .sends) h (inv .3 .own h) in (
+      turn-length (withFrames L) (frames-steps L) (g (j - 1)) out (l .loop .out) (inv .0) e,
+      turn-length (allSends n) (sends-steps n (ok .short)) (q (j - 1)) sends (l .loop .sends) (inv .1) f,
+      follow-turn (withFrames L) g (chunk .«track_count») (parent chunk) line out j (l .loop .out) (sub-left d chunk samples line) room few owned at h (inv .2) e,
+      follow-turn (allSends n) q (chunk .«track_count») (parent chunk) line sends j (l .loop .sends) (send-left d chunk samples line) room few owned at h (inv .3) f,
+      running-track n (l .loop .out) (omega (arith, inv .0, start .pre .1 .1 .1 .1 .1 .1 .0)) d chunk samples j (inv .4) (made .0),
+    )
+
+gather-add-sounds-requires : (t : ℕ) → gather-lts.Need-add-sounds-requires (
+  last-line-reads.Asked,
+  last-line-reads.Learnt,
+  process-below t,
+  process.Post,
+  line-before-reads.Asked,
+  line-before-reads.Learnt,
+  add-sounds-reads.Asked,
+  add-sounds-reads.Learnt,
+) (gather-at t) gather.Post gather-Inv-loop gather-μ-loop
+gather-add-sounds-requires t c κs =
+    let start = c .before .before .before .before .before .before .before in
+    let ok = start .pre .1 .1 .0 in
+    (ok, (start .pre .1 .1 .1 .0 .1, (omega (arith, c .before .before .loop .inv .0, start .pre .1 .1 .1 .1 .1 .1 .0), omega (arith, start .pre .1 .1 .1 .1 .1 .0 .1, ok .tracks))))
+
+gather-same-length : (t : ℕ) → gather-lts.Need-same-length (
+  last-line-reads.Asked,
+  last-line-reads.Learnt,
+  process-below t,
+  process.Post,
+  line-before-reads.Asked,
+  line-before-reads.Learnt,
+  add-sounds-reads.Asked,
+  add-sounds-reads.Learnt,
+) (gather-at t) gather.Post gather-Inv-loop gather-μ-loop
+gather-same-length t c = search needs
+
+gather-same-length-2 : (t : ℕ) → gather-lts.Need-same-length-2 (
+  last-line-reads.Asked,
+  last-line-reads.Learnt,
+  process-below t,
+  process.Post,
+  line-before-reads.Asked,
+  line-before-reads.Learnt,
+  add-sounds-reads.Asked,
+  add-sounds-reads.Learnt,
+) (gather-at t) gather.Post gather-Inv-loop gather-μ-loop
+gather-same-length-2 t c = search needs
+
+gather-returns : (t : ℕ) → gather-lts.Need-returns (
+  last-line-reads.Asked,
+  last-line-reads.Learnt,
+  process-below t,
+  process.Post,
+  line-before-reads.Asked,
+  line-before-reads.Learnt,
+  add-sounds-reads.Asked,
+  add-sounds-reads.Learnt,
+) (gather-at t) gather.Post gather-Inv-loop gather-μ-loop
+gather-returns t c =
+    let start = c .before .before .before .before .before .before .before .before .before .before in
+    let args = start .args in
+    let chunk = chunkFrom (args .places .now) (args .levels .now) (args .amplitudes .now) in
+    let samples = args .samples .now in
+    let n = chunk .frames in
+    let L = scratch 0 n in
+    let line = args .line in
+    let ok = start .pre .1 .1 .0 in
+    let d = args .depth in
+    let inv = c .before .before .before .before .before .loop .inv in
+    let out = args .out .now in
+    let sends = args .sends .now in
+    let under = follow-done (withFrames L) (subStep d chunk samples line) (chunk .«track_count») (parent chunk) line out (frames-steps L) (omega (arith, start .pre .1 .1 .1 .1 .1 .1 .0)) (omega (arith, c .before .before .before .before .loop-test .left)) (inv .2) ∙ sub-done d chunk samples line out in
+    let sent = follow-done (allSends n) (subSend d chunk samples line) (chunk .«track_count») (parent chunk) line sends (sends-steps n (ok .short)) (omega (arith, start .pre .1 .1 .1 .1 .1 .1 .1 .0)) (omega (arith, c .before .before .before .before .loop-test .left)) (inv .3) ∙ send-done d chunk samples line sends in
+    (sum-gathered d chunk samples line out (start .pre .1 .1 .1 .1 .1 .1 .0) (start .pre .1 .1 .1 .1 .1 .1 .1 .1) under (c .before .before .add-sounds .ensures), sent)
+
+process-element-copy-out-frames : (t : ℕ) → process-lts.Need-element-copy-out-frames (
+  track-at-reads.Asked,
+  track-at-reads.Learnt,
+  gather-below t,
+  gather.Post,
+  apply-volume-reads.Asked,
+  apply-volume-reads.Learnt,
+  add-routes-reads.Asked,
+  add-routes-reads.Learnt,
+  add-frames-reads.Asked,
+  add-frames-reads.Learnt,
+) (process-at t) process.Post
+process-element-copy-out-frames t c = search needs
+
+process-sub-track-at : (t : ℕ) → process-lts.Need-sub-track-at (
+  track-at-reads.Asked,
+  track-at-reads.Learnt,
+  gather-below t,
+  gather.Post,
+  apply-volume-reads.Asked,
+  apply-volume-reads.Learnt,
+  add-routes-reads.Asked,
+  add-routes-reads.Learnt,
+  add-frames-reads.Asked,
+  add-frames-reads.Learnt,
+) (process-at t) process.Post
+process-sub-track-at t c = c .before .before .before .before .pre .1 .1 .1 .1 .1 .0 .0
+
+process-track-at-requires : (t : ℕ) → process-lts.Need-track-at-requires (
+  track-at-reads.Asked,
+  track-at-reads.Learnt,
+  gather-below t,
+  gather.Post,
+  apply-volume-reads.Asked,
+  apply-volume-reads.Learnt,
+  add-routes-reads.Asked,
+  add-routes-reads.Learnt,
+  add-frames-reads.Asked,
+  add-frames-reads.Learnt,
+) (process-at t) process.Post
+process-track-at-requires t c κs =
+    let start = c .before .before .before .before in
+    omega (arith, start .pre .1 .1 .1 .1 .1 .0 .0, start .pre .1 .1 .1 .1 .1 .0 .1, start .pre .1 .1 .0 .tracks)
+
+process-returns : (t : ℕ) → process-lts.Need-returns (
+  track-at-reads.Asked,
+  track-at-reads.Learnt,
+  gather-below t,
+  gather.Post,
+  apply-volume-reads.Asked,
+  apply-volume-reads.Learnt,
+  add-routes-reads.Asked,
+  add-routes-reads.Learnt,
+  add-frames-reads.Asked,
+  add-frames-reads.Learnt,
+) (process-at t) process.Post
+process-returns t c =
+    let start = c .before .before .before .before .before .before in
+    let args = start .args in
+    let chunk = chunkFrom (args .places .now) (args .levels .now) (args .amplitudes .now) in
+    let samples = args .samples .now in
+    let n = chunk .frames in
+    let L = scratch 0 n in
+    let line = args .line in
+    let ok = start .pre .1 .1 .0 in
+    let none = c .if1 .taken in
+    (track-none (args .depth) chunk samples line (args .to .now) none (start .pre .1 .1 .1 .1 .1 .1 .1 .1), sends-none (args .depth) chunk samples line (args .sends .now) none)
+
+process-returns-2 : (t : ℕ) → process-lts.Need-returns-2 (
+  track-at-reads.Asked,
+  track-at-reads.Learnt,
+  gather-below t,
+  gather.Post,
+  apply-volume-reads.Asked,
+  apply-volume-reads.Learnt,
+  add-routes-reads.Asked,
+  add-routes-reads.Learnt,
+  add-frames-reads.Asked,
+  add-frames-reads.Learnt,
+) (process-at t) process.Post
+process-returns-2 t c =
+    let start = c .before .before .before .before .before .before .before .before in
+    let args = start .args in
+    let chunk = chunkFrom (args .places .now) (args .levels .now) (args .amplitudes .now) in
+    let samples = args .samples .now in
+    let n = chunk .frames in
+    let L = scratch 0 n in
+    let line = args .line in
+    let ok = start .pre .1 .1 .0 in
+    let d = args .depth - 1 in
+    let deep : args .depth ≡ suc d = omega (arith, c .before .before .if1 .left) in
+    let stops = ap (λ (t : ChunkTrack). t .advancing) (sym (c .before .before .before .track-at .ensures)) ∙ not-true _ (c .if2 .taken) in
+    (track-stopped (args .depth) d chunk samples line (args .to .now) deep (start .pre .1 .1 .1 .1 .1 .1 .1 .1) stops, sends-stopped (args .depth) d chunk samples line (args .sends .now) deep stops)
+
+process-sub-gather : (t : ℕ) → process-lts.Need-sub-gather (
+  track-at-reads.Asked,
+  track-at-reads.Learnt,
+  gather-below t,
+  gather.Post,
+  apply-volume-reads.Asked,
+  apply-volume-reads.Learnt,
+  add-routes-reads.Asked,
+  add-routes-reads.Learnt,
+  add-frames-reads.Asked,
+  add-frames-reads.Learnt,
+) (process-at t) process.Post
+process-sub-gather t c = omega (arith, c .before .before .if1 .left)
+
+process-slice-aggregate-gather : (t : ℕ) → process-lts.Need-slice-aggregate-gather (
+  track-at-reads.Asked,
+  track-at-reads.Learnt,
+  gather-below t,
+  gather.Post,
+  apply-volume-reads.Asked,
+  apply-volume-reads.Learnt,
+  add-routes-reads.Asked,
+  add-routes-reads.Learnt,
+  add-frames-reads.Asked,
+  add-frames-reads.Learnt,
+) (process-at t) process.Post
+process-slice-aggregate-gather t c = search needs
+
+process-gather-requires : (t : ℕ) → process-lts.Need-gather-requires (
+  track-at-reads.Asked,
+  track-at-reads.Learnt,
+  gather-below t,
+  gather.Post,
+  apply-volume-reads.Asked,
+  apply-volume-reads.Learnt,
+  add-routes-reads.Asked,
+  add-routes-reads.Learnt,
+  add-frames-reads.Asked,
+  add-frames-reads.Learnt,
+) (process-at t) process.Post
+unfolding ofBits ofInt
+process-gather-requires t c κs =
+    let start = c .before .before .before .before .before .before .before .before .before .before in
+    let args = start .args in
+    let chunk = chunkFrom (args .places .now) (args .levels .now) (args .amplitudes .now) in
+    let pre = start .pre .1 in
+    let ok = pre .1 .0 in
+    (omega (arith, start .pre .0, c .before .before .before .before .if1 .left), (pre .0, (ok, (pre .1 .1 .0, (pre .1 .1 .1 .0, (start .pre .1 .1 .1 .1 .1 .0, (omega (arith, ok .short), (start .pre .1 .1 .1 .1 .1 .1 .1 .0, zero-silent scratchPlaces (chunk .frames) (omega (arith, ok .short))))))))))
+
+process-slice-aggregate-apply-volume : (t : ℕ) → process-lts.Need-slice-aggregate-apply-volume (
+  track-at-reads.Asked,
+  track-at-reads.Learnt,
+  gather-below t,
+  gather.Post,
+  apply-volume-reads.Asked,
+  apply-volume-reads.Learnt,
+  add-routes-reads.Asked,
+  add-routes-reads.Learnt,
+  add-frames-reads.Asked,
+  add-frames-reads.Learnt,
+) (process-at t) process.Post
+process-slice-aggregate-apply-volume t c = search needs
+
+process-apply-volume-requires : (t : ℕ) → process-lts.Need-apply-volume-requires (
+  track-at-reads.Asked,
+  track-at-reads.Learnt,
+  gather-below t,
+  gather.Post,
+  apply-volume-reads.Asked,
+  apply-volume-reads.Learnt,
+  add-routes-reads.Asked,
+  add-routes-reads.Learnt,
+  add-frames-reads.Asked,
+  add-frames-reads.Learnt,
+) (process-at t) process.Post
+unfolding ofBits ofInt
+process-apply-volume-requires t c κs =
+    let start = c .before .before .before .before .before .before .before .before .before .before .before .before .before .before .before in
+    let args = start .args in
+    let chunk = chunkFrom (args .places .now) (args .levels .now) (args .amplitudes .now) in
+    let samples = args .samples .now in
+    let n = chunk .frames in
+    let L = scratch 0 n in
+    let line = args .line in
+    let ok = start .pre .1 .1 .0 in
+    let d = args .depth - 1 in
+    let made = c .before .before .before .before .gather .ensures in
+    let track = c .before .before .before .before .before .before .before .before .before .before .track-at .result in
+    let gathered = kept L (sumSet d chunk samples line) n silent (made .0) in
+    let lines = start .pre .1 .1 .1 .1 .1 .0 in
+    let level : (f : ChunkTrack → Level) → LevelInRange (f (trackRow chunk (line - 1))) → LevelInRange (f track) = λ f. subst (λ (t : ChunkTrack). LevelInRange (f t)) (sym (c .before .before .before .before .before .before .before .before .before .before .track-at .ensures)) in
+    (start .pre .1 .0, ((ok .short, omega (arith, gathered, ok .short)), ((level (λ t. t .volume) (ok .volumes (line - 1) (omega (arith, lines .0, lines .1))), level (λ t. t .fade) (ok .fades (line - 1) (omega (arith, lines .0, lines .1)))), start .pre .1 .1 .1 .1 .0)))
+
+process-slice-aggregate-add-routes : (t : ℕ) → process-lts.Need-slice-aggregate-add-routes (
+  track-at-reads.Asked,
+  track-at-reads.Learnt,
+  gather-below t,
+  gather.Post,
+  apply-volume-reads.Asked,
+  apply-volume-reads.Learnt,
+  add-routes-reads.Asked,
+  add-routes-reads.Learnt,
+  add-frames-reads.Asked,
+  add-frames-reads.Learnt,
+) (process-at t) process.Post
+process-slice-aggregate-add-routes t c = search needs
+
+process-add-routes-requires : (t : ℕ) → process-lts.Need-add-routes-requires (
+  track-at-reads.Asked,
+  track-at-reads.Learnt,
+  gather-below t,
+  gather.Post,
+  apply-volume-reads.Asked,
+  apply-volume-reads.Learnt,
+  add-routes-reads.Asked,
+  add-routes-reads.Learnt,
+  add-frames-reads.Asked,
+  add-frames-reads.Learnt,
+) (process-at t) process.Post
+unfolding ofBits ofInt
+process-add-routes-requires t c κs =
+    let start = c .before .before .before .before .before .before .before .before .before .before .before .before .before .before .before .before .before .before .before in
+    let args = start .args in
+    let chunk = chunkFrom (args .places .now) (args .levels .now) (args .amplitudes .now) in
+    let samples = args .samples .now in
+    let n = chunk .frames in
+    let L = scratch 0 n in
+    let line = args .line in
+    let ok = start .pre .1 .1 .0 in
+    let d = args .depth - 1 in
+    let made = c .before .before .before .before .before .before .before .before .gather .ensures in
+    let track = c .before .before .before .before .before .before .before .before .before .before .before .before .before .before .track-at .result in
+    let gathered = kept L (sumSet d chunk samples line) n silent (made .0) in
+    let scaled = kept L (trackScaled track n) n _ (c .before .before .before .apply-volume .ensures) in
+    (ok, (omega (arith, gathered, scaled, ok .short), ap length (made .1) ∙ onSends-length n (withSubSends d chunk samples line) (args .sends .now) ∙ start .pre .1 .1 .1 .1 .1 .1 .1 .0))
+
+process-slice-aggregate-add-frames : (t : ℕ) → process-lts.Need-slice-aggregate-add-frames (
+  track-at-reads.Asked,
+  track-at-reads.Learnt,
+  gather-below t,
+  gather.Post,
+  apply-volume-reads.Asked,
+  apply-volume-reads.Learnt,
+  add-routes-reads.Asked,
+  add-routes-reads.Learnt,
+  add-frames-reads.Asked,
+  add-frames-reads.Learnt,
+) (process-at t) process.Post
+process-slice-aggregate-add-frames t c = search needs
+
+process-add-frames-requires : (t : ℕ) → process-lts.Need-add-frames-requires (
+  track-at-reads.Asked,
+  track-at-reads.Learnt,
+  gather-below t,
+  gather.Post,
+  apply-volume-reads.Asked,
+  apply-volume-reads.Learnt,
+  add-routes-reads.Asked,
+  add-routes-reads.Learnt,
+  add-frames-reads.Asked,
+  add-frames-reads.Learnt,
+) (process-at t) process.Post
+unfolding ofBits ofInt
+process-add-frames-requires t c κs =
+    let start = c .before .before .before .before .before .before .before .before .before .before .before .before .before .before .before .before .before .before .before .before .before .before .before .before in
+    let args = start .args in
+    let chunk = chunkFrom (args .places .now) (args .levels .now) (args .amplitudes .now) in
+    let samples = args .samples .now in
+    let n = chunk .frames in
+    let L = scratch 0 n in
+    let line = args .line in
+    let ok = start .pre .1 .1 .0 in
+    let d = args .depth - 1 in
+    let made = c .before .before .before .before .before .before .before .before .before .before .before .before .before .gather .ensures in
+    let track = c .before .before .before .before .before .before .before .before .before .before .before .before .before .before .before .before .before .before .before .track-at .result in
+    let gathered = kept L (sumSet d chunk samples line) n silent (made .0) in
+    let scaled = kept L (trackScaled track n) n _ (c .before .before .before .before .before .before .before .before .apply-volume .ensures) in
+    (start .pre .1 .1 .1 .1 .1 .1 .0, omega (arith, gathered, scaled, ok .short))
+
+process-same-length : (t : ℕ) → process-lts.Need-same-length (
+  track-at-reads.Asked,
+  track-at-reads.Learnt,
+  gather-below t,
+  gather.Post,
+  apply-volume-reads.Asked,
+  apply-volume-reads.Learnt,
+  add-routes-reads.Asked,
+  add-routes-reads.Learnt,
+  add-frames-reads.Asked,
+  add-frames-reads.Learnt,
+) (process-at t) process.Post
+process-same-length t c = search needs
+
+process-same-length-2 : (t : ℕ) → process-lts.Need-same-length-2 (
+  track-at-reads.Asked,
+  track-at-reads.Learnt,
+  gather-below t,
+  gather.Post,
+  apply-volume-reads.Asked,
+  apply-volume-reads.Learnt,
+  add-routes-reads.Asked,
+  add-routes-reads.Learnt,
+  add-frames-reads.Asked,
+  add-frames-reads.Learnt,
+) (process-at t) process.Post
+process-same-length-2 t c = search needs
+
+process-returns-3 : (t : ℕ) → process-lts.Need-returns-3 (
+  track-at-reads.Asked,
+  track-at-reads.Learnt,
+  gather-below t,
+  gather.Post,
+  apply-volume-reads.Asked,
+  apply-volume-reads.Learnt,
+  add-routes-reads.Asked,
+  add-routes-reads.Learnt,
+  add-frames-reads.Asked,
+  add-frames-reads.Learnt,
+) (process-at t) process.Post
+unfolding ofBits ofInt
+process-returns-3 t c =
+    let start = c .before .before .before .before .before .before .before .before .before .before .before .before .before .before .before .before .before .before .before .before .before .before .before .before .before .before .before in
+    let args = start .args in
+    let chunk = chunkFrom (args .places .now) (args .levels .now) (args .amplitudes .now) in
+    let samples = args .samples .now in
+    let n = chunk .frames in
+    let L = scratch 0 n in
+    let line = args .line in
+    let ok = start .pre .1 .1 .0 in
+    let d = args .depth - 1 in
+    let deep : args .depth ≡ suc d = omega (arith, c .before .before .before .before .before .before .before .before .before .before .before .before .before .before .before .before .before .before .before .before .before .if1 .left) in
+    let read = c .before .before .before .before .before .before .before .before .before .before .before .before .before .before .before .before .before .before .before .before .before .before .track-at .ensures in
+    let moves = ap (λ (t : ChunkTrack). t .advancing) (sym read) ∙ not-false _ (c .before .before .before .before .before .before .before .before .before .before .before .before .before .before .before .before .before .before .before .if2 .left) in
+    let made = c .before .before .before .before .before .before .before .before .before .before .before .before .before .before .before .before .gather .ensures in
+    let sum = c .before .before .before .before .before .before .before .before .before .before .before .before .before .before .before .before .gather .last .1 .1 .1 .1 .1 .1 .1 .1 .1 .1 .0 in
+    let scaled = c .before .before .before .before .before .before .before .before .before .before .before .apply-volume .ensures ∙ ap (λ (t : ChunkTrack). withFrames L (trackScaled t n) sum) read in
+    let out = c .before .before .before .before .before .before .before .before .before .before .before .apply-volume .last .0 in
+    let has = track-mixed (args .depth) d chunk samples line deep silent (omega (arith, ok .short)) moves (made .0) scaled in
+    (track-added (args .depth) chunk samples line (args .to .now) out has (c .before .before .add-frames .ensures), sends-mixed (args .depth) d chunk samples line (args .sends .now) deep out (ok .short) (start .pre .1 .1 .1 .1 .1 .1 .1 .0) moves has (made .1) (c .before .before .before .before .before .before .before .add-routes .ensures))
+
+pub +gather+process-spec : {M : Type 1} → statement M
++gather+process-spec = close μ-gather μ-process (λ t. gather-lts.spec (
+  last-line-reads.Asked,
+  last-line-reads.Learnt,
+  process-below t,
+  process.Post,
+  line-before-reads.Asked,
+  line-before-reads.Learnt,
+  add-sounds-reads.Asked,
+  add-sounds-reads.Learnt,
+)
+    (gather-at t)
+    gather.Post
+    gather-Inv-loop
+    gather-μ-loop
+    (gather-last-line-requires t)
+    (gather-loop-holds t)
+    (gather-process-requires t)
+    (gather-line-before-requires t)
+    (gather-loop-less t)
+    (gather-loop-again t)
+    (gather-add-sounds-requires t)
+    (gather-same-length t)
+    (gather-same-length-2 t)
+    (gather-returns t))
+    λ t. process-lts.spec (
+      track-at-reads.Asked,
+      track-at-reads.Learnt,
+      gather-below t,
+      gather.Post,
+      apply-volume-reads.Asked,
+      apply-volume-reads.Learnt,
+      add-routes-reads.Asked,
+      add-routes-reads.Learnt,
+      add-frames-reads.Asked,
+      add-frames-reads.Learnt,
+    )
+    (process-at t)
+    process.Post
+    (process-element-copy-out-frames t)
+    (process-sub-track-at t)
+    (process-track-at-requires t)
+    (process-returns t)
+    (process-returns-2 t)
+    (process-sub-gather t)
+    (process-slice-aggregate-gather t)
+    (process-gather-requires t)
+    (process-slice-aggregate-apply-volume t)
+    (process-apply-volume-requires t)
+    (process-slice-aggregate-add-routes t)
+    (process-add-routes-requires t)
+    (process-slice-aggregate-add-frames t)
+    (process-add-frames-requires t)
+    (process-same-length t)
+    (process-same-length-2 t)
+    (process-returns-3 t)
