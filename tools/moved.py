@@ -74,6 +74,10 @@ def main():
         sys.exit(__doc__)
     with tempfile.TemporaryDirectory() as one, tempfile.TemporaryDirectory() as two:
         before, after = tree(sys.argv[1], one), tree(sys.argv[2], two)
+    # what stood among the definitions and is a law now moved as a law
+    for name in list(before["definitions"]):
+        if name not in after["definitions"] and name in after["laws"]:
+            before["laws"][name] += before["definitions"].pop(name)
     if len(sys.argv) == 5:
         print(f"The gate took {sys.argv[3]} s before and {sys.argv[4]} s after.\n")
     for kind in KINDS:
