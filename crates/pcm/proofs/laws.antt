@@ -1,0 +1,5 @@
+pub mod Scaled
+pub mod Sixteen
+pub mod Signed
+pub mod Encodings
+pub mod Back

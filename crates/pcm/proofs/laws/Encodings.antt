@@ -1,0 +1,26 @@
+-- What each encoding's definitions come to, and what comes back from a sample's pattern. Assumes nothing.
+use mathlib.Core.Path.{_≡_, refl, ap}
+use mathlib.Core.List.{List}
+use Prim.Native.Nat.{ℕ}
+use lib.Ieee.{binary32, ofBits}
+use Rattle.byte_order.specs.declared.bytes.ByteOrder.{ByteOrder}
+use Rattle.pcm.specs.declared.sample.Encoding.{Encoding}
+use Rattle.pcm.specs.declared.sample.Encoding.the-variants.{Pcm16, Float32}
+use Rattle.byte_order.specs.Bytes.{numberAt}
+use Rattle.pcm.specs.Sample.{width, sampleOf, sampleAt}
+
+pub pcm-width : (encoding : Encoding) → encoding ≡ Pcm16 → width encoding ≡ 2
+unfolding width
+pcm-width encoding e = ap width e
+
+pub float-width : (encoding : Encoding) → encoding ≡ Float32 → width encoding ≡ 4
+unfolding width
+float-width encoding e = ap width e
+
+pub pcm-at : (order : ByteOrder) (bytes : List ℕ) (at : ℕ) → sampleAt Pcm16 order bytes at ≡ sampleOf Pcm16 (numberAt order bytes at 2)
+unfolding sampleAt width
+pcm-at order bytes at = refl
+
+pub float-at : (order : ByteOrder) (bytes : List ℕ) (at : ℕ) → sampleAt Float32 order bytes at ≡ ofBits binary32 (numberAt order bytes at 4)
+unfolding sampleAt width sampleOf
+float-at order bytes at = refl
