@@ -1,0 +1,48 @@
+-- `read_samples` meets its contract. Assumes nothing.
+use Prim.Native.Nat.{_/_, _*_}
+use lib.ListN.{length}
+use Rattle.sound_data.proofs.laws.Frames.{known-room}
+use borrow.Author.Needs.{needs}
+use Rattle.sound_data.proofs.data.read_samples.Statement.{statement}
+use Rattle.sound_data.proofs.data.read_samples.Tie as tie
+
+enum-told : tie.Need-enum-told
+enum-told c = search needs
+
+read-encoded-requires : tie.Need-read-encoded-requires
+read-encoded-requires c κs =
+    let start = c .before .before .before .before .before in
+    (start .pre .0, (start .pre .1 .0, known-room (start .args .encoding) (start .args .start) (length (start .args .samples .now) / 2 * start .args .channels) (length (start .args .bytes .now)) (search needs) (start .pre .1 .1)))
+
+enum-told-2 : tie.Need-enum-told-2
+enum-told-2 c = search needs
+
+read-encoded-requires-2 : tie.Need-read-encoded-requires-2
+read-encoded-requires-2 c κs =
+    let start = c .before .before .before .before .before in
+    (start .pre .0, (start .pre .1 .0, known-room (start .args .encoding) (start .args .start) (length (start .args .samples .now) / 2 * start .args .channels) (length (start .args .bytes .now)) (search needs) (start .pre .1 .1)))
+
+same-length : tie.Need-same-length
+same-length c = search needs
+
+returns : tie.Need-returns
+returns c = cc
+
+same-length-2 : tie.Need-same-length-2
+same-length-2 c = search needs
+
+returns-2 : tie.Need-returns-2
+returns-2 c = cc
+
+pub read-samples-spec : {M : Type 1} → statement M
+read-samples-spec =
+    tie.close
+    (tie.spec
+    enum-told
+    read-encoded-requires
+    enum-told-2
+    read-encoded-requires-2
+    same-length
+    returns
+    same-length-2
+    returns-2)
