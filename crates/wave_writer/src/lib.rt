@@ -1,0 +1,6 @@
+// A WAVE file of given samples.
+mod file;
+mod head;
+
+pub use file::length;
+pub use file::write;
