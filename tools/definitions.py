@@ -20,6 +20,7 @@ ROUTINES = {
     "decibels": ["Decibels::as_amplitude", "room_desk_amplitude"],
     "room_desk": ["render", "room_desk_render"],
     "render_files": ["render_text"],
+    "wave": ["room_desk_wave_info", "room_desk_wave_read", "room_desk_wave_write", "room_desk_wave_length"],
 }
 # the theorems that stand beside the contracts
 THEOREMS = [
@@ -29,6 +30,10 @@ THEOREMS = [
     ("rounding", "narrows-unique"),
     ("room_desk", "never-eleven"),
     ("render_files", "first-bytes"),
+    ("pcm", "plus-multiple"),
+    ("pcm", "minus-multiple"),
+    ("wave", "minus-zero-lost"),
+    ("wave", "one-lost"),
     ("test_examples", "examples-agree"),
     ("test_alike_pairs", "all-alike"),
     ("test_alike_pairs", "no-control"),

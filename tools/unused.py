@@ -17,6 +17,8 @@ TESTS = [
     ("rounding", "narrowings"),
     ("rounding", "nanos"),
     ("rounding", "seconds"),
+    ("pcm", "minus-zero-lost"),
+    ("pcm", "one-lost"),
     ("noninterference", "example"),
     ("noninterference", "same-mix"),
     ("noninterference", "alike-example"),

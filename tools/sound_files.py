@@ -1,0 +1,133 @@
+"""RIFF/WAVE files, read and written as the request's words say it: independent of the proved routines.
+
+A routine here answers what the routine of the same name answers: its number, and on 0 the values.
+Samples are f32 bit patterns (whole numbers), so that two sides can be compared bit by bit."""
+
+import struct
+from fractions import Fraction
+
+NAN = 0x7FC00000
+RATES = range(8000, 192001)
+MOST = 0xFFFFFFFF
+
+
+def f32_value(bits):
+    """The value of a pattern as a fraction, or None for an infinity or a NaN."""
+    sign = -1 if bits >> 31 else 1
+    exponent = bits >> 23 & 255
+    digits = bits & 0x7FFFFF
+    if exponent == 255:
+        return None
+    if exponent == 0:
+        return sign * Fraction(digits, 2**149)
+    return sign * Fraction(digits + 2**23) * Fraction(2) ** (exponent - 150)
+
+
+def f32_pattern(value):
+    """The pattern of a fraction that f32 holds exactly."""
+    bits = struct.unpack("<I", struct.pack("<f", float(value)))[0]
+    assert f32_value(bits) == value
+    return bits
+
+
+def one_nan(bits):
+    return NAN if bits & 0x7FFFFFFF > 0x7F800000 else bits
+
+
+def chunks(file):
+    """The chunks as (identifier, start of the body, size), and whether they fill the file."""
+    found = []
+    at = 12
+    while at < len(file):
+        if len(file) - at < 8:
+            return found, False
+        name = bytes(file[at : at + 4])
+        size = int.from_bytes(file[at + 4 : at + 8], "little")
+        found.append((name, at + 8, size))
+        if at + 8 + size > len(file):
+            return found, False
+        at += 8 + size
+        if size % 2 == 1 and at < len(file):
+            at += 1
+    return found, True
+
+
+def sound_in(file):
+    """(number, None) or (0, (rate, channels, bits, frames, start of the data))."""
+    if file[0:4] != b"RIFF" or file[8:12] != b"WAVE":
+        return 13, None
+    found, whole = chunks(file)
+    formats = [c for c in found if c[0] == b"fmt "]
+    datas = [c for c in found if c[0] == b"data"]
+    if not formats or formats[0][2] != 16 or not datas:
+        return 13, None
+    if not whole:
+        return 14, None
+    tag, channels, rate, _, _, bits = struct.unpack("<HHIIHH", file[formats[0][1] : formats[0][1] + 16])
+    read_kind = (tag, bits) in ((1, 16), (3, 32)) and channels in (1, 2)
+    start, size = datas[0][1:]
+    if read_kind and size % (channels * bits // 8) != 0:
+        return 14, None
+    if not read_kind:
+        return 15, None
+    return 0, (rate, channels, bits, size // (channels * bits // 8), start)
+
+
+def info(file):
+    number, sound = sound_in(file)
+    return (number, None) if number else (0, sound[:4])
+
+
+def value_at(file, at, bits):
+    if bits == 16:
+        v = int.from_bytes(file[at : at + 2], "little", signed=True)
+        return f32_pattern(Fraction(v, 32768))
+    return one_nan(int.from_bytes(file[at : at + 4], "little"))
+
+
+def read(file, length):
+    """(number, None) or (0, (rate, samples)); `length` is the sample buffer's."""
+    number, sound = sound_in(file)
+    if number:
+        return number, None
+    rate, channels, bits, frames, start = sound
+    if length != 2 * frames:
+        return 10, None
+    samples = []
+    for i in range(frames):
+        values = [value_at(file, start + (i * channels + c) * bits // 8, bits) for c in range(channels)]
+        samples += values * 2 if channels == 1 else values
+    return 0, (rate, samples)
+
+
+def nearest16(bits):
+    """32768 x, rounded to nearest, ties to even, and stopped at the ends."""
+    return max(-32768, min(32767, round(f32_value(bits) * 32768)))
+
+
+def is_sample(bits):
+    value = f32_value(bits)
+    return value is not None and -1 <= value <= 1
+
+
+def write(rate, channels, bits, samples, length):
+    """(number, None) or (0, file); `length` is the file buffer's."""
+    if rate not in RATES:
+        return 4, None
+    if channels not in (1, 2) or bits not in (16, 32):
+        return 15, None
+    if len(samples) % 2 != 0:
+        return 8, None
+    if not all(is_sample(x) for x in samples):
+        return 9, None
+    data = b"".join(
+        struct.pack("<h", nearest16(x)) if bits == 16 else struct.pack("<I", x)
+        for i, x in enumerate(samples)
+        if channels == 2 or i % 2 == 0
+    )
+    if 36 + len(data) > MOST or length != 44 + len(data):
+        return 10, None
+    frame = channels * bits // 8
+    head = struct.pack("<4sI4s4sIHHIIHH4sI", b"RIFF", 36 + len(data), b"WAVE", b"fmt ", 16, 1 if bits == 16 else 3,
+                       channels, rate, rate * frame, frame, bits, b"data", len(data))
+    return 0, head + data
