@@ -95,7 +95,8 @@ def main():
     expect("examples/first", [(ROOT / "examples/first/scene.txt").read_text(), (ROOT / "examples/first/samples.raw").read_bytes()], [first, raw(FIRST)])
     check_show(page, show)
     count = 0
-    for section in re.split(r"^## ", (ROOT / "docs/REFUSALS.md").read_text(), flags=re.M)[1:]:
+    sections = re.split(r"^## ", (ROOT / "docs/REFUSALS.md").read_text(), flags=re.M)[1:]
+    for section in (s for s in sections if int(re.match(r"\d+", s)[0]) <= 12):  # the scene's; those behind are about sound files
         for example in re.findall(r"Example: (.*?)(?=\.? Example:|\.?$)", section, re.M):
             count += 1
             expect(f"“{example}”", refusal(first, example), section.split(":")[0])
