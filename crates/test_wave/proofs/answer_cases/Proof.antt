@@ -11,43 +11,33 @@ Inv-loop input at₀ at = at ≤ length input
 abbrev μ-loop : tie.MeasureT-loop
 μ-loop input at₀ at = length input - at
 
--- src/main.rt:113:5
 loop-holds : tie.Need-loop-holds Inv-loop μ-loop
 loop-holds c = search needs
 
--- src/main.rt:114:34
 sub-answer-case : tie.Need-sub-answer-case Inv-loop μ-loop
 sub-answer-case c = search needs
 
--- src/main.rt:114:34
 part-answer-case-start : tie.Need-part-answer-case-start Inv-loop μ-loop
 part-answer-case-start c = search needs
 
--- src/main.rt:114:34
 part-answer-case-end : tie.Need-part-answer-case-end Inv-loop μ-loop
 part-answer-case-end c = search needs
 
--- src/main.rt:114:13
 answer-case-requires : tie.Need-answer-case-requires Inv-loop μ-loop
 answer-case-requires c κs = search needs
 
--- src/main.rt:116:13
 returns : tie.Need-returns Inv-loop μ-loop
 returns c = search needs
 
--- src/main.rt:118:9
 add-at : tie.Need-add-at Inv-loop μ-loop
 add-at c = search needs
 
--- src/main.rt:113:5
 loop-less : tie.Need-loop-less Inv-loop μ-loop
 loop-less c = search needs
 
--- src/main.rt:113:5
 loop-again : tie.Need-loop-again Inv-loop μ-loop
 loop-again c = search needs
 
--- src/main.rt:111:1
 returns-2 : tie.Need-returns-2 Inv-loop μ-loop
 returns-2 c = search needs
 

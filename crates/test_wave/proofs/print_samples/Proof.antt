@@ -11,47 +11,36 @@ Inv-loop samples i₀ t3 i = i ≤ length samples
 abbrev μ-loop : tie.MeasureT-loop
 μ-loop samples i₀ t3 i = length samples - i
 
--- src/main.rt:21:5
 loop-holds : tie.Need-loop-holds Inv-loop μ-loop
 loop-holds c = search needs
 
--- src/main.rt:22:36
 mul-f32-bits : tie.Need-mul-f32-bits Inv-loop μ-loop
 mul-f32-bits c = search needs
 
--- src/main.rt:22:36
 shared-slice-read-f32-bits : tie.Need-shared-slice-read-f32-bits Inv-loop μ-loop
 shared-slice-read-f32-bits c = search needs
 
--- src/main.rt:22:15
 f32-bits-requires : tie.Need-f32-bits-requires Inv-loop μ-loop
 f32-bits-requires c κs = search needs
 
--- src/main.rt:22:9
 print-requires : tie.Need-print-requires Inv-loop μ-loop
 print-requires c κs = search needs
 
--- src/main.rt:23:9
 add-i : tie.Need-add-i Inv-loop μ-loop
 add-i c = search needs
 
--- src/main.rt:21:5
 loop-less : tie.Need-loop-less Inv-loop μ-loop
 loop-less c = search needs
 
--- src/main.rt:21:5
 loop-again : tie.Need-loop-again Inv-loop μ-loop
 loop-again c = search needs
 
--- src/main.rt:25:34
 slice-aggregate-write-all : tie.Need-slice-aggregate-write-all Inv-loop μ-loop
 slice-aggregate-write-all c = search needs
 
--- src/main.rt:25:5
 write-all-requires : tie.Need-write-all-requires Inv-loop μ-loop
 write-all-requires c κs = search needs
 
--- src/main.rt:19:1
 returns : tie.Need-returns Inv-loop μ-loop
 returns c = search needs
 
