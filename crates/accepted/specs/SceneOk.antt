@@ -5,7 +5,7 @@ use Prim.Native.Nat.{ℕ, _+_, _*_, _≤_, _<_}
 use lib.Dec.{T}
 use lib.ListN.{getD, length}
 use lib.Ieee.{Float, nan, binary64, fits}
-use Rattle.limits.specs.Limits.{clockLines, trackLines, sendLines, routeLines, soundLines, orderLines}
+use Rattle.limits.specs.Limits.{clockLines, trackLines, sendLines, routeLines, soundLines, orderLines, blockFramesMost, blocksMost, channelsMost, chunkFramesMost}
 use Rattle.laws.specs.DecibelRange.{TargetRange}
 use Rattle.laws.specs.FloatBounds.{Within}
 use Rattle.clock.specs.ClockSpeed.{asTicksPerSecond, allowedSpeed}
@@ -43,10 +43,10 @@ pub record OrderOk (s : Scene) (o : OrderLine) : Type 0 where
 
 pub record SceneOk (s : Scene) : Type 0 where
   pub rate : (8000 ≤ s .head .rate) × (s .head .rate ≤ 192000)
-  pub channels : (1 ≤ s .head .channels) × (s .head .channels ≤ 8)
-  pub buffer : (1 ≤ s .head .buffer) × (s .head .buffer ≤ 256)
-  pub block : (1 ≤ s .head .block) × (s .head .block ≤ 512)
-  pub blocks : (1 ≤ s .head .blocks) × (s .head .blocks ≤ 1024)
+  pub channels : (1 ≤ s .head .channels) × (s .head .channels ≤ channelsMost)
+  pub buffer : (1 ≤ s .head .buffer) × (s .head .buffer ≤ chunkFramesMost)
+  pub block : (1 ≤ s .head .block) × (s .head .block ≤ blockFramesMost)
+  pub blocks : (1 ≤ s .head .blocks) × (s .head .blocks ≤ blocksMost)
   pub volume : TargetRange (s .head .volume .0)
   -- how many lines, and how many places
   pub clockCount : s .«clock_count» ≤ clockLines

@@ -39,6 +39,10 @@ fileBytes = 16384
 abbrev pub blockFramesMost : ℕ
 blockFramesMost = 512
 
+-- blocks of a show
+abbrev pub blocksMost : ℕ
+blocksMost = 1024
+
 -- channels of the output
 abbrev pub channelsMost : ℕ
 channelsMost = 8

@@ -42,7 +42,8 @@ fn put_render(
     requires { ⌜ (count ≤ most) × (count ≤ length (now output)) ⌝ }
     requires { ⌜ answer (now file) (now samples) count ≡ 0 ⌝ }
     ensures length { λ r. ⌜ r ≡ length (printedOutput width (rendered (sceneOf (tablesOf (now (file .entry)))) (now (samples .entry)))) ⌝ }
-    ensures text { λ _. ⌜ now (text .exit) ≡ begun (printedOutput width (rendered (sceneOf (tablesOf (now (file .entry)))) (now (samples .entry)))) (now (text .entry)) ⌝ }
+    ensures text { λ _. ⌜ now (text .exit) ≡ begun
+        (printedOutput width (rendered (sceneOf (tablesOf (now (file .entry)))) (now (samples .entry)))) (now (text .entry)) ⌝ }
 {
     room_desk::render(file, samples, &mut output[0..count]);
     put_output(text, width, &output[0..count])
@@ -114,7 +115,8 @@ pub fn render_read(scene: &[u8], m: usize, samples: &[u8], n: usize, text: &mut 
     requires { ⌜ (length (now scene) ≡ sceneBytes) × (length (now samples) ≡ sampleBytes) ⌝ }
     requires { ⌜ Counts m (now scene) ⌝ }
     requires { ⌜ Counts n (now samples) ⌝ }
-    ensures text { λ r. ⌜ ((file raw : List ℕ) → FirstOf file (now (scene .entry)) m → FirstOf raw (now (samples .entry)) n → TextOf file raw (now (text .entry)) r (now (text .exit))) ⌝ }
+    ensures text { λ r. ⌜ ((file raw : List ℕ) → FirstOf file (now (scene .entry)) m → FirstOf raw (now (samples .entry)) n
+        → TextOf file raw (now (text .entry)) r (now (text .exit))) ⌝ }
     ensures within { λ r. ⌜ (r ≤ length (now (text .exit))) × (r ≡ length (take r (now (text .exit)))) ⌝ }
 {
     render_text(&scene[..m], &samples[..n], text)

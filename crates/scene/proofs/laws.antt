@@ -1,2 +1,2 @@
-pub mod Typed
-pub mod Whole
+pub mod LineValues
+pub mod TablesInPlaces

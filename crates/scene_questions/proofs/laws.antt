@@ -1,5 +1,5 @@
 pub mod Places
 pub mod Samples
-pub mod Lengths
-pub mod Tracks
+pub mod FileSize
+pub mod LineQuestions
 pub mod FirstNo

@@ -2,6 +2,7 @@
 ghost use mathlib.Core.Path.{_≡_};
 ghost use mathlib.Core.Bool.{_&&_};
 ghost use Prim.Native.Nat.{_+_, _-_, _*_, _≤_};
+ghost use Rattle.limits.specs.Limits.{blockFramesMost, blocksMost, channelsMost};
 ghost use Rattle.scene_tables.specs.Tables.{tableAt, width, sounds, headColumn};
 ghost use Rattle.scene_questions.specs.Questions.{headCell, soundsFit, firstNo, tableQuestions, inputQuestions, answer};
 ghost use Rattle.scene_questions.specs.Places.{rowsIn, stored, placesMost, Low, questionAt};
@@ -73,7 +74,8 @@ fn passes(
 ) -> bool
     requires { ⌜ Low (now starts) (now counts) ⌝ }
     requires { ⌜ (firstOfTables ≤ question) × (question ≤ lastOfTables) ⌝ }
-    ensures { λ r. ⌜ r ≡ questionAt (also 8 whole (tableQuestions (stored (now (starts .entry)) (now (counts .entry)) (now (values .entry))) (now (samples .entry)))) (question - firstOfTables) .1 ⌝ }
+    ensures { λ r. ⌜ (let tables = stored (now (starts .entry)) (now (counts .entry)) (now (values .entry)) in
+        r ≡ questionAt (also 8 whole (tableQuestions tables (now (samples .entry)))) (question - firstOfTables) .1) ⌝ }
 {
     match question {
         3 => counts_fit(counts),
@@ -101,7 +103,8 @@ fn first_no(
     whole: bool,
 ) -> u32
     requires { ⌜ Low (now starts) (now counts) ⌝ }
-    ensures { λ r. ⌜ r ≡ firstNo (also 8 whole (tableQuestions (stored (now (starts .entry)) (now (counts .entry)) (now (values .entry))) (now (samples .entry)))) ⌝ }
+    ensures { λ r. ⌜ (let tables = stored (now (starts .entry)) (now (counts .entry)) (now (values .entry)) in
+        r ≡ firstNo (also 8 whole (tableQuestions tables (now (samples .entry))))) ⌝ }
 {
     let mut question = FIRST;
     while question <= LAST {
@@ -144,9 +147,9 @@ pub fn read_input(file: &[u8], samples: &[f32], whole: bool) -> Answer
 
 // The output's length that question 10 asks for.
 fn output_length(head: Head) -> usize
-    requires { ⌜ head .block ≤ 512 ⌝ }
-    requires { ⌜ head .blocks ≤ 1024 ⌝ }
-    requires { ⌜ head .channels ≤ 8 ⌝ }
+    requires { ⌜ head .block ≤ blockFramesMost ⌝ }
+    requires { ⌜ head .blocks ≤ blocksMost ⌝ }
+    requires { ⌜ head .channels ≤ channelsMost ⌝ }
     ensures { λ r. ⌜ r ≡ head .block * head .blocks * head .channels ⌝ }
 {
     head.block * head.blocks * head.channels

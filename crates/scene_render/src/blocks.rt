@@ -2,7 +2,7 @@
 ghost use mathlib.Core.Path.{_≡_};
 ghost use Prim.Native.Nat.{_-_, _*_, _≤_};
 ghost use lib.ListN.{length};
-ghost use Rattle.limits.specs.Limits.{chunkFramesMost};
+ghost use Rattle.limits.specs.Limits.{chunkFramesMost, blockFramesMost};
 ghost use Rattle.accepted.specs.SceneOk.{SceneOk, SamplesOk};
 ghost use Rattle.renderer.specs.Renderer.{chunkCount, chunkFrames, rendered};
 use mixer::Mixer;
@@ -11,7 +11,7 @@ use scene::Scene;
 
 // The frames of a block's last chunk.
 fn last_frames(head: Head) -> usize
-    requires { ⌜ (1 ≤ head .buffer) × (head .buffer ≤ chunkFramesMost) × (1 ≤ head .block) × (head .block ≤ 512) ⌝ }
+    requires { ⌜ (1 ≤ head .buffer) × (head .buffer ≤ chunkFramesMost) × (1 ≤ head .block) × (head .block ≤ blockFramesMost) ⌝ }
     ensures { λ r. ⌜ r ≡ chunkFrames head (chunkCount head - 1) ⌝ }
 {
     renderer::chunk_frames(head, renderer::chunk_count(head) - 1)

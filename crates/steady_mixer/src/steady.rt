@@ -89,6 +89,9 @@ fn track_steady(track: Track, reached: bool) -> bool
     !track.live
 }
 
+// A flag for the mixer, and one for each track.
+const FLAGS: usize = TRACK_PLACES + 1;
+
 // Every track, in line order. A flag for the mixer and for each line says whether it is live.
 fn tracks_steady(
     lines: [TrackLine; TRACK_LINES],
@@ -100,7 +103,7 @@ fn tracks_steady(
     requires { ⌜ ((t : ℕ) → t < count → TrackIn (stateOf tracks t)) ⌝ }
     ensures { λ r. ⌜ r ≡ every count (steadyTrack lines tracks) ⌝ }
 {
-    let mut live = [true; 33];
+    let mut live = [true; FLAGS];
     let mut t = 0;
     while t < count {
         let line = lines[t];

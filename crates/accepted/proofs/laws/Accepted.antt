@@ -6,7 +6,7 @@ use borrow.Author.Tests.{leb-true, eqb-true}
 use lib.Dec.{T, eqb, lit<}
 use lib.ListN.{length, getD}
 use lib.Ieee.{Float, nan, binary64, fits}
-use Rattle.limits.specs.Limits.{clockLines, trackLines, sendLines, routeLines, soundLines, orderLines}
+use Rattle.limits.specs.Limits.{clockLines, trackLines, sendLines, routeLines, soundLines, orderLines, blockFramesMost, blocksMost, channelsMost, chunkFramesMost}
 use Rattle.laws.proofs.laws.Choice.{true-T, and-right}
 use Rattle.laws.specs.DecibelRange.{TargetRange}
 use Rattle.clock.specs.ClockSpeed.{asTicksPerSecond, allowedSpeed}
@@ -87,10 +87,10 @@ module _ (ts : Tables) (samples : List Float) (output : ℕ) (passed : TablesPas
   scene-ok =
       record {
         rate = natural-between 8000 192000 _ (head-field (headColumn .rate) (lit< tt));
-        channels = natural-between 1 8 _ (head-field (headColumn .channels) (lit< tt));
-        buffer = natural-between 1 256 _ (head-field (headColumn .buffer) (lit< tt));
-        block = natural-between 1 512 _ (head-field (headColumn .block) (lit< tt));
-        blocks = natural-between 1 1024 _ (head-field (headColumn .blocks) (lit< tt));
+        channels = natural-between 1 channelsMost _ (head-field (headColumn .channels) (lit< tt));
+        buffer = natural-between 1 chunkFramesMost _ (head-field (headColumn .buffer) (lit< tt));
+        block = natural-between 1 blockFramesMost _ (head-field (headColumn .block) (lit< tt));
+        blocks = natural-between 1 blocksMost _ (head-field (headColumn .blocks) (lit< tt));
         volume = volume-target _ (head-field (headColumn .volume) (lit< tt));
         clockCount = most clocks (lit< tt);
         trackCount = most tracks (lit< tt);

@@ -5,7 +5,7 @@ use native.Mathlib.Nat.{le-trans}
 use native.Mathlib.Omega.{arith}
 use lib.ListN.{length, getD, replicate, length-replicate}
 use lib.Ieee.{Float}
-use Rattle.limits.specs.Limits.{trackPlaces, sendLines, routeLines, soundLines}
+use Rattle.limits.specs.Limits.{trackPlaces, sendLines, routeLines, soundLines, chunkFramesMost}
 use Rattle.parameter.specs.declared.parameter.Parameter.{Parameter}
 use Rattle.parameter.specs.Range.{ParameterIn, valueRange}
 use Rattle.parameter.proofs.laws.Parameter.{value-admitted}
@@ -71,7 +71,7 @@ module _ (s : Scene) (c : ℕ) (m : Mixer) (ok : SceneOk s) (h : MixerOk s c m) 
       changed-array (replicate soundLines emptySoundRow) (λ k x. chunkSound (soundLine s k) (getD (m .played) k 0)) (ok .soundCount) (length-replicate soundLines emptySoundRow)
       (λ k b. whole (soundLine s k .first) (soundLine s k .count) (getD (m .played) k 0) (length samples) (h .played k b) (there .sounds k b))
 
-pub chunk-ok : (s : Scene) (samples : List Float) (c n : ℕ) (m : Mixer) → SceneOk s → SamplesOk s samples → MixerOk s c m → n ≤ 256 → ChunkOk (chunkOf s n m) samples
+pub chunk-ok : (s : Scene) (samples : List Float) (c n : ℕ) (m : Mixer) → SceneOk s → SamplesOk s samples → MixerOk s c m → n ≤ chunkFramesMost → ChunkOk (chunkOf s n m) samples
 unfolding chunkOf
 chunk-ok s samples c n m ok there h few =
     record {

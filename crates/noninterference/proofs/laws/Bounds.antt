@@ -10,6 +10,7 @@ use lib.Dec.{eqb, lit<, lit≤}
 use lib.Pow.{pow-add, pow-pos}
 use lib.Ieee.{Float, binary32, binary64, add, mul, sub, neg, ofInt}
 use lib.Ieee.Fits.{add-fits}
+use Rattle.limits.specs.Limits.{soundLines, trackDepth, trackPlaces}
 use Rattle.laws.specs.Loop.{downto}
 use Rattle.laws.proofs.laws.Loop.{downto-holds}
 use Rattle.laws.proofs.laws.Float.{Zero, positive-zero}
@@ -116,13 +117,13 @@ module _ (c : Chunk) (samples : List Float) (ok : ChunkOk c samples) (i : ℕ) (
       (λ k l. both-map (Size (2 ^ u)) (λ x v. within-weaken (pow-pos u) v) (heard k l))
       (terms-within (λ j. eqb (trackRow c j .parent) line) (λ j. trackFrame d c samples (suc j) i) u n 0 zeroFrame U (shorter n (ok .tracks)) h (both-zero (Size (0 * 2 ^ u)) (within-zero positive-zero))))
     where
-      few : (n m : ℕ) → n ≤ 32 → m ≤ 64 → 0 + n + m ≤ 128
+      few : (n m : ℕ) → n ≤ trackPlaces → m ≤ soundLines → 0 + n + m ≤ 128
       few n m a b = omega arith
 
-      short : (n m : ℕ) → n ≤ 32 → m ≤ 64 → 0 + n + m < 128
+      short : (n m : ℕ) → n ≤ trackPlaces → m ≤ soundLines → 0 + n + m < 128
       short n m a b = omega arith
 
-      shorter : (n : ℕ) → n ≤ 32 → 0 + n < 128
+      shorter : (n : ℕ) → n ≤ trackPlaces → 0 + n < 128
       shorter n a = omega arith
 
   amount : IsAmount (amountAt i (c .frames))
@@ -142,13 +143,13 @@ module _ (c : Chunk) (samples : List Float) (ok : ChunkOk c samples) (i : ℕ) (
       deeper : (d : ℕ) → 7 + 15 * d + 8 ≡ 15 * suc d
       deeper d = omega arith
 
-      room : (d : ℕ) → suc d ≤ 4 → 7 + 15 * d + 8 ≤ 127
+      room : (d : ℕ) → suc d ≤ trackDepth → 7 + 15 * d + 8 ≤ 127
       room d h = omega arith
 
-      low : (d : ℕ) → suc d ≤ 4 → 15 * d ≤ 121
+      low : (d : ℕ) → suc d ≤ trackDepth → 15 * d ≤ 121
       low d h = omega arith
 
   -- so whatever is summed in a track is finite
-  pub sum-finite : (d : ℕ) → suc d ≤ 4 → (line : ℕ) → Both Finite (trackSum d c samples line i)
+  pub sum-finite : (d : ℕ) → suc d ≤ trackDepth → (line : ℕ) → Both Finite (trackSum d c samples line i)
   sum-finite d h line =
       both-map Finite (λ x v. v .is-finite) (sum-within d (15 * d) line (omega arith) (track-within d (omega arith)))

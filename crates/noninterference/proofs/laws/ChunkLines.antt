@@ -7,6 +7,7 @@ use native.Mathlib.Omega.{arith}
 use lib.Dec.{T, ltb, ltb→lt}
 use lib.ListN.{length, getD, replicate, length-replicate}
 use lib.Ieee.{Float, nan}
+use Rattle.limits.specs.Limits.{routeLines, soundLines, trackPlaces}
 use Rattle.laws.specs.Loop.{changed}
 use Rattle.laws.proofs.laws.Loop.{changed-below}
 use Rattle.laws.proofs.laws.Float.{positive-zero}
@@ -32,17 +33,17 @@ filled : {A : Type 0} (f : ℕ → A) (n size : ℕ) (x d : A) (i : ℕ) → i <
 filled f n size x d i a b = changed-below (λ k y. f k) n (replicate size x) i d a (subst (λ (k : ℕ). i < k) (sym (length-replicate size x)) b)
 
 module _ (s : Scene) (n : ℕ) (m : Mixer) where
-  pub track-line : (j : ℕ) → j < s .«track_count» → j < 32 → chunk.trackRow (chunkOf s n m) j ≡ chunkTrack (trackLine s j) (stateOf (m .tracks) j)
+  pub track-line : (j : ℕ) → j < s .«track_count» → j < trackPlaces → chunk.trackRow (chunkOf s n m) j ≡ chunkTrack (trackLine s j) (stateOf (m .tracks) j)
   unfolding chunkOf chunkTracks
-  track-line j a b = filled (λ t. chunkTrack (trackLine s t) (stateOf (m .tracks) t)) (s .«track_count») 32 emptyTrackRow chunk.absentTrackRow j a b
+  track-line j a b = filled (λ t. chunkTrack (trackLine s t) (stateOf (m .tracks) t)) (s .«track_count») trackPlaces emptyTrackRow chunk.absentTrackRow j a b
 
-  pub route-line : (r : ℕ) → r < s .«route_count» → r < 64 → chunk.routeRow (chunkOf s n m) r ≡ chunkRoute (routeLine s r) (parameterOf (m .routes) r)
+  pub route-line : (r : ℕ) → r < s .«route_count» → r < routeLines → chunk.routeRow (chunkOf s n m) r ≡ chunkRoute (routeLine s r) (parameterOf (m .routes) r)
   unfolding chunkOf chunkRoutes
-  route-line r a b = filled (λ i. chunkRoute (routeLine s i) (parameterOf (m .routes) i)) (s .«route_count») 64 emptyRouteRow chunk.absentRouteRow r a b
+  route-line r a b = filled (λ i. chunkRoute (routeLine s i) (parameterOf (m .routes) i)) (s .«route_count») routeLines emptyRouteRow chunk.absentRouteRow r a b
 
-  pub sound-line : (k : ℕ) → k < s .«sound_count» → k < 64 → chunk.soundRow (chunkOf s n m) k ≡ chunkSound (soundLine s k) (getD (m .played) k 0)
+  pub sound-line : (k : ℕ) → k < s .«sound_count» → k < soundLines → chunk.soundRow (chunkOf s n m) k ≡ chunkSound (soundLine s k) (getD (m .played) k 0)
   unfolding chunkOf chunkSounds
-  sound-line k a b = filled (λ i. chunkSound (soundLine s i) (getD (m .played) i 0)) (s .«sound_count») 64 emptySoundRow chunk.absentSoundRow k a b
+  sound-line k a b = filled (λ i. chunkSound (soundLine s i) (getD (m .played) i 0)) (s .«sound_count») soundLines emptySoundRow chunk.absentSoundRow k a b
 
 -- ---- what a sound plays
 

@@ -10,6 +10,7 @@ use lib.Dec.{T, lit≤}
 use lib.Ieee.{Float}
 use lib.Ieee.Scale.{finite}
 use lib.ListN.{length, replicate}
+use Rattle.limits.specs.Limits.{routeLines, sendLines}
 use Rattle.laws.specs.Kept.{rank}
 use Rattle.laws.specs.Float.{posZero, one}
 use Rattle.laws.specs.FloatBounds.{Within}
@@ -67,9 +68,9 @@ whole =
       «track_count» = 2;
       tracks = muted ∷ inner ∷ replicate 30 inner;
       «send_count» = 1;
-      sends = replicate 8 unity;
+      sends = replicate sendLines unity;
       «route_count» = 1;
-      routes = replicate 64 route;
+      routes = replicate routeLines route;
       «sound_count» = 2;
       sounds = sound 1 ∷ sound 2 ∷ replicate 62 (sound 2);
       main = unity;
@@ -82,7 +83,7 @@ rest =
       «track_count» = 1;
       tracks = muted ∷ [];
       «send_count» = 1;
-      sends = replicate 8 unity;
+      sends = replicate sendLines unity;
       «route_count» = 1;
       routes = route ∷ [];
       «sound_count» = 0;
@@ -120,7 +121,7 @@ whole-ok =
       fades = two (λ j. LevelInRange (trackRow whole j .fade)) unity-in unity-in;
       sendLevels = only (λ s. LevelInRange (sendRow whole s)) unity-in;
       mainLevel = unity-in;
-      routed = only (λ r. (1 ≤ routeRow whole r .send) × (routeRow whole r .send ≤ 8)) (lit≤ tt, lit≤ tt);
+      routed = only (λ r. (1 ≤ routeRow whole r .send) × (routeRow whole r .send ≤ sendLines)) (lit≤ tt, lit≤ tt);
       held = two (λ k. 2 * (soundRow whole k .start + soundRow whole k .left) ≤ length samples) (lit≤ tt) (lit≤ tt);
       arrays = record { tracks = refl; sends = refl; routes = refl; sounds = refl };
     }

@@ -9,6 +9,7 @@ use lib.Dec.{T, eqb, ltb, ltb→lt}
 use lib.ListN.{length, set, length-set}
 use lib.Seq.{getD-set-same}
 use lib.Ieee.Fits.{and-l, and-r}
+use Rattle.limits.specs.Limits.{trackPlaces}
 use Rattle.laws.proofs.laws.Choice.{cond-true}
 use Rattle.laws.specs.Loop.{upto}
 use Rattle.laws.proofs.laws.Loop.{upto-holds}
@@ -123,14 +124,14 @@ module _ {s : Scene} {t : ℕ} (ok : SceneOk s) (held : HeldTrack s t) where
       (λ dt clocks u. paused-at-once playbackNew tween dt clocks refl (held .start) (held .millis) u)
 
   record Pass (i : ℕ) (m : Mixer) : Type 0 where
-    places : length (m .tracks) ≡ 32
+    places : length (m .tracks) ≡ trackPlaces
     before : i ≤ held .line → stateAt m t .playback ≡ playbackNew
     after : held .line < i → Holds (stateAt m t .playback)
 
-  pass : t < 32 → (i : ℕ) → i < s .«order_count» → (m : Mixer) → Pass i m → Pass (suc i) (acted orderedBy s 0 i m)
+  pass : t < trackPlaces → (i : ℕ) → i < s .«order_count» → (m : Mixer) → Pass i m → Pass (suc i) (acted orderedBy s 0 i m)
   pass room i b m r =
       record {
-        places = acted-holds (λ (x : Mixer). length (x .tracks) ≡ 32) orderedBy s 0 i m (r .places) (λ c. ordered-length (orderLine s i .kind) (orderLine s i) m ∙ r .places);
+        places = acted-holds (λ (x : Mixer). length (x .tracks) ≡ trackPlaces) orderedBy s 0 i m (r .places) (λ c. ordered-length (orderLine s i .kind) (orderLine s i) m ∙ r .places);
         before = λ h. other-order (λ (p : PlaybackStateManager). p ≡ playbackNew) 0 i b (λ c e. earlier i (held .line) h e) m (r .before (omega arith));
         after = λ h. elim (eq-or-lt-of-le h) [
           | inl e ↦ subst (λ (k : ℕ). Holds (stateAt (acted orderedBy s 0 k m) t .playback)) (same (held .line) i e)
@@ -151,7 +152,7 @@ module _ {s : Scene} {t : ℕ} (ok : SceneOk s) (held : HeldTrack s t) where
       no-later : (l i : ℕ) → suc l ≡ suc i → i ≤ l
       no-later l i e = omega arith
 
-  pub held-first : t < 32 → (m : Mixer) → length (m .tracks) ≡ 32 → stateAt m t .playback ≡ playbackNew → Holds (stateAt (mixerOrdered s 0 m) t .playback)
+  pub held-first : t < trackPlaces → (m : Mixer) → length (m .tracks) ≡ trackPlaces → stateAt m t .playback ≡ playbackNew → Holds (stateAt (mixerOrdered s 0 m) t .playback)
   held-first room m e p =
       subst (λ (x : Mixer). Holds (stateAt x t .playback)) (sym (passes s 0 m))
       (upto-holds (λ i x. Holds (stateAt x t .playback)) (acted resumedBy s 0) (s .«order_count») (upto (acted orderedBy s 0) (s .«order_count») m)

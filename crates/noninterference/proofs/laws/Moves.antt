@@ -7,6 +7,7 @@ use native.Mathlib.Omega.{arith}
 use lib.Dec.{T, eqb, ltb, eqb·suc-zero}
 use lib.ListN.{getD}
 use lib.Ieee.{Float}
+use Rattle.limits.specs.Limits.{routeLines, soundLines, trackPlaces}
 use Rattle.laws.proofs.laws.Choice.{cond-false}
 use Rattle.laws.specs.Loop.{upto, changed}
 use Rattle.laws.specs.Kept.{rank}
@@ -35,7 +36,7 @@ live-suc : (l : List Track) (p : ℕ) → liveAbove l (suc p) ≡ stateOf l p .l
 unfolding liveAbove
 live-suc l p = cond-false (eqb (suc p) 0) true (stateOf l (suc p - 1) .live) (eqb·suc-zero p) ∙ ap (λ (k : ℕ). stateOf l k .live) (line-of p)
 
-module _ (keep : ℕ → Bool) (n : ℕ) {l l' : List Track} (r : ArrayLeft Track keep n 32 absentTrack l l') where
+module _ (keep : ℕ → Bool) (n : ℕ) {l l' : List Track} (r : ArrayLeft Track keep n trackPlaces absentTrack l l') where
   -- a kept track, named by its line
   pub state-left : (line : ℕ) → 1 ≤ line → line ≤ n → T (keptLine keep line) → stateOf l' (newLine keep line - 1) ≡ stateOf l (line - 1)
   unfolding newLine keptLine
@@ -62,10 +63,10 @@ moved s dt clocks m =
 
 module _ {keep chosen quiet : ℕ → Bool} {s : Scene} {samples : List Float} {e : Scene} {samples' : List Float} (ok : SceneOk s) (w : SceneLeft keep chosen quiet s samples e samples') where
   abbrev TracksLeft : List Track → List Track → Type 0
-  TracksLeft l l' = ArrayLeft Track keep (s .«track_count») 32 absentTrack l l'
+  TracksLeft l l' = ArrayLeft Track keep (s .«track_count») trackPlaces absentTrack l l'
 
   abbrev RoutesLeft : List Parameter → List Parameter → Type 0
-  RoutesLeft l l' = ArrayLeft Parameter (keptRouteLine keep s) (s .«route_count») 64 absentParameter l l'
+  RoutesLeft l l' = ArrayLeft Parameter (keptRouteLine keep s) (s .«route_count») routeLines absentParameter l l'
 
   -- ---- tracks
 
@@ -79,7 +80,7 @@ module _ {keep chosen quiet : ℕ → Bool} {s : Scene} {samples : List Float} {
     step-kept : (t : ℕ) → t < s .«track_count» → T (keep t) → (l l' : List Track) → TracksLeft l l' → TracksLeft (trackStep (s .tracks) dt clocks t l) (trackStep (e .tracks) dt clocks (rank keep t) l')
     unfolding trackStep
     step-kept t b k l l' r =
-        set-kept keep (s .«track_count») 32 absentTrack (ok .trackCount) t b k
+        set-kept keep (s .«track_count») trackPlaces absentTrack (ok .trackCount) t b k
         (ap₂ (λ (x : Track) (a : Bool). trackUpdate x a dt clocks) (r .same t b k)
         (ap (λ (x : TrackLine). liveAbove l' (x .parent)) (w .tracks t b k) ∙ live-left keep (s .«track_count») r (trackLine s t .parent) (parent-there t b) (parent-kept t b k)))
         r
@@ -87,7 +88,7 @@ module _ {keep chosen quiet : ℕ → Bool} {s : Scene} {samples : List Float} {
     step-removed : (t : ℕ) → T (not (keep t)) → (l l' : List Track) → TracksLeft l l' → TracksLeft (trackStep (s .tracks) dt clocks t l) l'
     unfolding trackStep
     step-removed t k l l' r =
-        set-removed keep (s .«track_count») 32 absentTrack (ok .trackCount) t k (trackUpdate (stateOf l t) (liveAbove l (trackLine s t .parent)) dt clocks) r
+        set-removed keep (s .«track_count») trackPlaces absentTrack (ok .trackCount) t k (trackUpdate (stateOf l t) (liveAbove l (trackLine s t .parent)) dt clocks) r
 
     tracks-left : {l l' : List Track} → TracksLeft l l' → TracksLeft (tracksUpdate (s .tracks) (s .«track_count») dt clocks l) (tracksUpdate (e .tracks) (e .«track_count») dt clocks l')
     unfolding tracksUpdate
@@ -126,7 +127,7 @@ module _ {keep chosen quiet : ℕ → Bool} {s : Scene} {samples : List Float} {
           routes = subst
               (λ (n : ℕ). RoutesLeft (changed (routeUpdate (s .routes) dt clocks l) (s .«route_count») (m .routes)) (changed (routeUpdate (e .routes) dt clocks l') n (m' .routes)))
               (sym (w .route-count))
-              (changed-left (keptRouteLine keep s) (s .«route_count») 64 absentParameter (ok .routeCount) (m .routes) (m' .routes) (routeUpdate (s .routes) dt clocks l)
+              (changed-left (keptRouteLine keep s) (s .«route_count») routeLines absentParameter (ok .routeCount) (m .routes) (m' .routes) (routeUpdate (s .routes) dt clocks l)
               (routeUpdate (e .routes) dt clocks l') (h .routes .places) (h .routes .places')
               (λ r b k. route-moves dt clocks tracks r b k (parameterOf (m .routes) r) (parameterOf (m' .routes) (rank (keptRouteLine keep s) r)) (h .routes .same r b k)));
           played = h .played;
@@ -163,8 +164,8 @@ module _ {keep chosen quiet : ℕ → Bool} {s : Scene} {samples : List Float} {
           tracks = h .tracks;
           routes = h .routes;
           played = subst
-              (λ (c : ℕ). ArrayLeft ℕ (keptSoundLine keep chosen s) (s .«sound_count») 64 0 (changed f (s .«sound_count») (m .played)) (changed g c (m' .played)))
+              (λ (c : ℕ). ArrayLeft ℕ (keptSoundLine keep chosen s) (s .«sound_count») soundLines 0 (changed f (s .«sound_count») (m .played)) (changed g c (m' .played)))
               (sym (w .sound-count))
-              (changed-left (keptSoundLine keep chosen s) (s .«sound_count») 64 0 (ok .soundCount) (m .played) (m' .played) f g (h .played .places) (h .played .places')
+              (changed-left (keptSoundLine keep chosen s) (s .«sound_count») soundLines 0 (ok .soundCount) (m .played) (m' .played) f g (h .played .places) (h .played .places')
               (λ k b t. sound-plays n k b t (getD (m .played) k 0) (getD (m' .played) (rank (keptSoundLine keep chosen s) k) 0) (h .played .same k b t)));
         }

@@ -6,6 +6,7 @@ use Prim.Native.Nat.{ℕ, _-_, _<_}
 use lib.Dec.{T}
 use lib.ListN.{set}
 use lib.Ieee.{Float}
+use Rattle.limits.specs.Limits.{routeLines, trackPlaces}
 use Rattle.laws.specs.Loop.{upto}
 use Rattle.laws.specs.Kept.{rank}
 use Rattle.laws.proofs.laws.Kept.{upto-kept}
@@ -58,7 +59,7 @@ module _ {keep chosen : ℕ → Bool} {s : Scene} (ok : SceneOk s) {m m' : Mixer
         clocks = h .clocks;
         main = h .main;
         sends = h .sends;
-        tracks = line-set-kept keep (s .«track_count») 32 absentTrack (ok .trackCount) line (there .0) (there .1) t f (h .tracks);
+        tracks = line-set-kept keep (s .«track_count») trackPlaces absentTrack (ok .trackCount) line (there .0) (there .1) t f (h .tracks);
         routes = h .routes;
         played = h .played;
       }
@@ -70,7 +71,7 @@ module _ {keep chosen : ℕ → Bool} {s : Scene} (ok : SceneOk s) {m m' : Mixer
         clocks = h .clocks;
         main = h .main;
         sends = h .sends;
-        tracks = line-set-removed keep (s .«track_count») 32 absentTrack (ok .trackCount) line t (f (stateOf (m .tracks) (line - 1))) (h .tracks);
+        tracks = line-set-removed keep (s .«track_count») trackPlaces absentTrack (ok .trackCount) line t (f (stateOf (m .tracks) (line - 1))) (h .tracks);
         routes = h .routes;
         played = h .played;
       }
@@ -84,7 +85,7 @@ module _ {keep chosen : ℕ → Bool} {s : Scene} (ok : SceneOk s) {m m' : Mixer
         main = h .main;
         sends = h .sends;
         tracks = h .tracks;
-        routes = line-set-kept (keptRouteLine keep s) (s .«route_count») 64 absentParameter (ok .routeCount) line (there .0) (there .1) t f (h .routes);
+        routes = line-set-kept (keptRouteLine keep s) (s .«route_count») routeLines absentParameter (ok .routeCount) line (there .0) (there .1) t f (h .routes);
         played = h .played;
       }
 
@@ -96,7 +97,7 @@ module _ {keep chosen : ℕ → Bool} {s : Scene} (ok : SceneOk s) {m m' : Mixer
         main = h .main;
         sends = h .sends;
         tracks = h .tracks;
-        routes = line-set-removed (keptRouteLine keep s) (s .«route_count») 64 absentParameter (ok .routeCount) line t (f (parameterOf (m .routes) (line - 1))) (h .routes);
+        routes = line-set-removed (keptRouteLine keep s) (s .«route_count») routeLines absentParameter (ok .routeCount) line t (f (parameterOf (m .routes) (line - 1))) (h .routes);
         played = h .played;
       }
 

@@ -9,6 +9,7 @@ use native.Mathlib.Omega.{arith}
 use lib.Dec.{T, ltb, ltb→lt, lit<, lit≤}
 use lib.ListN.{replicate, length-replicate}
 use lib.Ieee.{Float}
+use Rattle.limits.specs.Limits.{chunkFramesMost, trackPlaces}
 use Rattle.laws.specs.Loop.{upto}
 use Rattle.laws.proofs.laws.Loop.{changed-below}
 use Rattle.laws.specs.Amount.{unsigned}
@@ -62,7 +63,7 @@ frames-most h k = go (ltb (h .block - k * h .buffer) (h .buffer)) (λ t. ltb→l
     go false l = le-refl (h .buffer)
 
 module _ {s : Scene} (ok : SceneOk s) (k : ℕ) where
-  pub frames-few : chunkFrames (s .head) k ≤ 256
+  pub frames-few : chunkFrames (s .head) k ≤ chunkFramesMost
   frames-few = le-trans (frames-most (s .head) k) (ok .buffer .1)
 
   step-unsigned : T (unsigned (chunkTime (s .head .rate) (chunkFrames (s .head) k)))
@@ -77,8 +78,8 @@ module _ {keep chosen quiet : ℕ → Bool} {s : Scene} {samples : List Float} {
   state-new : (t : ℕ) → t < s .«track_count» → stateOf (mixerNew s .tracks) t ≡ trackNew (trackLine s t .volume)
   unfolding mixerNew tracksNew
   state-new t b =
-      changed-below (λ i x. trackNew (trackLine s i .volume)) (s .«track_count») (replicate 32 emptyTrack) t absentTrack b
-      (subst (λ (n : ℕ). t < n) (sym (length-replicate 32 emptyTrack)) (lt-of-lt-of-le b (ok .trackCount)))
+      changed-below (λ i x. trackNew (trackLine s i .volume)) (s .«track_count») (replicate trackPlaces emptyTrack) t absentTrack b
+      (subst (λ (n : ℕ). t < n) (sym (length-replicate trackPlaces emptyTrack)) (lt-of-lt-of-le b (ok .trackCount)))
 
   silent-new : (t : ℕ) → t < s .«track_count» → MutedTrack quiet s t → SilentVolume (stateOf (mixerNew s .tracks) t)
   unfolding trackNew

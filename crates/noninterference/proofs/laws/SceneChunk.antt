@@ -10,6 +10,7 @@ use lib.Dec.{T}
 use lib.ListN.{getD}
 use lib.Ieee.{Float}
 use lib.Ieee.Scale.{finite}
+use Rattle.limits.specs.Limits.{chunkFramesMost, routeLines, soundLines, trackPlaces}
 use Rattle.laws.specs.Kept.{rank}
 use Rattle.laws.proofs.laws.Kept.{rank-lt, rank-le, rank-cong}
 use Rattle.laws.proofs.laws.Float.{Zero}
@@ -40,7 +41,7 @@ use Rattle.noninterference.proofs.laws.ChunkLines.{track-line, route-li
 use Rattle.chunk.specs.Chunk as chunk
 
 module _ {keep chosen quiet : ℕ → Bool} {s : Scene} {samples : List Float} {e : Scene} {samples' : List Float} (ok : SceneOk s) (w : SceneLeft keep chosen quiet s samples e samples')
-    (n : ℕ) (few : n ≤ 256) {m m' : Mixer} (r : ChunkLeft keep chosen quiet s m m') where
+    (n : ℕ) (few : n ≤ chunkFramesMost) {m m' : Mixer} (r : ChunkLeft keep chosen quiet s m m') where
   abbrev c : Chunk
   c = chunkOf s n m
 
@@ -94,19 +95,19 @@ module _ {keep chosen quiet : ℕ → Bool} {s : Scene} {samples : List Float} {
   kept-track : (j : ℕ) → j < s .«track_count» → T (keep j) → chunk.trackRow c' (rank keep j) ≡ newTrack keep (chunk.trackRow c j)
   unfolding chunkTrack
   kept-track j b t =
-      let p = place keep j (s .«track_count») (e .«track_count») 32 b (ok .trackCount) t (w .track-count) in
+      let p = place keep j (s .«track_count») (e .«track_count») trackPlaces b (ok .trackCount) t (w .track-count) in
       track-line e n m' (rank keep j) (p .0) (p .1) ∙ ap₂ chunkTrack (w .tracks j b t) (r .left .tracks .same j b t) ∙ sym (ap (newTrack keep) (track-at j b))
 
   kept-route-at : (i : ℕ) → i < s .«route_count» → T (keptRouteLine keep s i) → chunk.routeRow c' (rank (keptRouteLine keep s) i) ≡ newRoute keep (chunk.routeRow c i)
   unfolding chunkRoute
   kept-route-at i b t =
-      let p = place (keptRouteLine keep s) i (s .«route_count») (e .«route_count») 64 b (ok .routeCount) t (w .route-count) in
+      let p = place (keptRouteLine keep s) i (s .«route_count») (e .«route_count») routeLines b (ok .routeCount) t (w .route-count) in
       route-line e n m' (rank (keptRouteLine keep s) i) (p .0) (p .1) ∙ ap₂ chunkRoute (w .routes i b t) (r .left .routes .same i b t) ∙ sym (ap (newRoute keep) (route-at i b))
 
   kept-sound-at : (k : ℕ) → k < s .«sound_count» → T (keptSoundLine keep chosen s k)
       → chunk.soundRow c' (rank (keptSoundLine keep chosen s) k) ≡ chunkSound (soundLine e (rank (keptSoundLine keep chosen s) k)) (getD (m' .played) (rank (keptSoundLine keep chosen s) k) 0)
   kept-sound-at k b t =
-      let p = place (keptSoundLine keep chosen s) k (s .«sound_count») (e .«sound_count») 64 b (ok .soundCount) t (w .sound-count) in
+      let p = place (keptSoundLine keep chosen s) k (s .«sound_count») (e .«sound_count») soundLines b (ok .soundCount) t (w .sound-count) in
       sound-line e n m' (rank (keptSoundLine keep chosen s) k) (p .0) (p .1)
 
   kept-sound-track : (k : ℕ) → k < s .«sound_count» → T (keptSoundLine keep chosen s k) → chunk.soundRow c' (rank (keptSoundLine keep chosen s) k) .track ≡ newLine keep (chunk.soundRow c k .track)

@@ -10,6 +10,7 @@ use lib.Dec.{T}
 use lib.ListN.{length, getD, set, length-set}
 use lib.Seq.{getD-set-same}
 use lib.Ieee.{Float}
+use Rattle.limits.specs.Limits.{trackPlaces}
 use Rattle.laws.proofs.laws.Loop.{upto-holds}
 use Rattle.laws.specs.Amount.{unsigned}
 use Rattle.clock.specs.declared.when_to_start.Clocks.{Clocks}
@@ -57,11 +58,11 @@ module _ (dt : Float) (clocks : Clocks) (positive : T (unsigned dt)) (reached : 
 -- A line is updated once, in its own turn: what an update makes of what held before holds after all turns.
 module _ (lines : List TrackLine) (dt : Float) (clocks : Clocks) (P Q : Track → Type 0) (moves : (reached : Bool) (x : Track) → P x → Q (trackUpdate x reached dt clocks)) (t : ℕ) where
   record Turns (i : ℕ) (l : List Track) : Type 0 where
-    places : length l ≡ 32
+    places : length l ≡ trackPlaces
     before : i ≤ t → P (stateOf l t)
     after : t < i → Q (stateOf l t)
 
-  turn : (i : ℕ) → i < 32 → (l : List Track) → Turns i l → Turns (suc i) (trackStep lines dt clocks i l)
+  turn : (i : ℕ) → i < trackPlaces → (l : List Track) → Turns i l → Turns (suc i) (trackStep lines dt clocks i l)
   unfolding trackStep
   turn i b l r =
       let x = trackUpdate (stateOf l i) (liveAbove l (getD lines i absentTrackLine .parent)) dt clocks in
@@ -81,7 +82,7 @@ module _ (lines : List TrackLine) (dt : Float) (clocks : Clocks) (P Q : Track �
           subst (λ (k : ℕ). Q (getD (set l i x) k absentTrack)) (sym e)
           (subst Q (sym (getD-set-same l i x absentTrack (omega (arith, r .places)))) (moves above (stateOf l i) (subst (λ (k : ℕ). P (stateOf l k)) e (r .before (omega arith)))))
 
-  pub updated-once : (n : ℕ) → t < n → n ≤ 32 → (l : List Track) → length l ≡ 32 → P (stateOf l t) → Q (stateOf (tracksUpdate lines n dt clocks l) t)
+  pub updated-once : (n : ℕ) → t < n → n ≤ trackPlaces → (l : List Track) → length l ≡ trackPlaces → P (stateOf l t) → Q (stateOf (tracksUpdate lines n dt clocks l) t)
   unfolding tracksUpdate
   updated-once n b c l e p =
       upto-holds Turns (trackStep lines dt clocks) n l (record { places = e; before = λ h. p; after = λ h. absurd (omega arith) }) (λ i h x r. turn i (lt-of-lt-of-le h c) x r) .after b

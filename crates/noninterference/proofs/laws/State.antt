@@ -5,6 +5,7 @@ use mathlib.Core.List.{List}
 use Prim.Native.Nat.{ℕ, zero, suc}
 use lib.ListN.{getD, replicate, length-replicate}
 use lib.Ieee.{Float}
+use Rattle.limits.specs.Limits.{clockLines, routeLines, sendLines, soundLines, trackPlaces}
 use Rattle.laws.specs.Loop.{changed}
 use Rattle.laws.proofs.laws.Loop.{changed-cong}
 use Rattle.laws.specs.Kept.{rank}
@@ -32,9 +33,9 @@ pub record MixerLeft (keep chosen : ℕ → Bool) (s : Scene) (m m' : Mixer) : T
   pub clocks : m' .clocks ≡ m .clocks
   pub main : m' .«main_volume» ≡ m .«main_volume»
   pub sends : m' .sends ≡ m .sends
-  pub tracks : ArrayLeft Track keep (s .«track_count») 32 absentTrack (m .tracks) (m' .tracks)
-  pub routes : ArrayLeft Parameter (keptRouteLine keep s) (s .«route_count») 64 absentParameter (m .routes) (m' .routes)
-  pub played : ArrayLeft ℕ (keptSoundLine keep chosen s) (s .«sound_count») 64 0 (m .played) (m' .played)
+  pub tracks : ArrayLeft Track keep (s .«track_count») trackPlaces absentTrack (m .tracks) (m' .tracks)
+  pub routes : ArrayLeft Parameter (keptRouteLine keep s) (s .«route_count») routeLines absentParameter (m .routes) (m' .routes)
+  pub played : ArrayLeft ℕ (keptSoundLine keep chosen s) (s .«sound_count») soundLines 0 (m .played) (m' .played)
 
 clocksWith : List Clock → ℕ → Clocks
 clocksWith l n = record { clocks = l; count = n }
@@ -52,8 +53,8 @@ module _ {keep chosen quiet : ℕ → Bool} {s : Scene} {samples : List Float} {
       let f : ℕ → Clock → Clock = λ i c. newClock (clockLine e i .speed) (clockLine e i .ticking) in
       let g : ℕ → Clock → Clock = λ i c. newClock (clockLine s i .speed) (clockLine s i .ticking) in
       ap₂ clocksWith
-      (ap (λ (n : ℕ). changed f n (replicate 8 emptyClock)) (w .clock-count)
-      ∙ changed-cong f g (s .«clock_count») (replicate 8 emptyClock) emptyClock (λ i l b. ap (λ (c : ClockLine). newClock (c .speed) (c .ticking)) (w .clocks i l)))
+      (ap (λ (n : ℕ). changed f n (replicate clockLines emptyClock)) (w .clock-count)
+      ∙ changed-cong f g (s .«clock_count») (replicate clockLines emptyClock) emptyClock (λ i l b. ap (λ (c : ClockLine). newClock (c .speed) (c .ticking)) (w .clocks i l)))
       (w .clock-count)
 
   sends-new : sendsNew e ≡ sendsNew s
@@ -61,27 +62,27 @@ module _ {keep chosen quiet : ℕ → Bool} {s : Scene} {samples : List Float} {
   sends-new =
       let f : ℕ → Parameter → Parameter = λ i x. parameterNew (sendLine e i .volume) in
       let g : ℕ → Parameter → Parameter = λ i x. parameterNew (sendLine s i .volume) in
-      ap (λ (n : ℕ). changed f n (replicate 8 emptyParameter)) (w .send-count)
-      ∙ changed-cong f g (s .«send_count») (replicate 8 emptyParameter) emptyParameter (λ i l b. ap (λ (c : SendLine). parameterNew (c .volume)) (w .sends i l))
+      ap (λ (n : ℕ). changed f n (replicate sendLines emptyParameter)) (w .send-count)
+      ∙ changed-cong f g (s .«send_count») (replicate sendLines emptyParameter) emptyParameter (λ i l b. ap (λ (c : SendLine). parameterNew (c .volume)) (w .sends i l))
 
-  tracks-new : ArrayLeft Track keep (s .«track_count») 32 absentTrack (tracksNew s) (tracksNew e)
+  tracks-new : ArrayLeft Track keep (s .«track_count») trackPlaces absentTrack (tracksNew s) (tracksNew e)
   unfolding tracksNew
   tracks-new =
-      let l = replicate 32 emptyTrack in
+      let l = replicate trackPlaces emptyTrack in
       let f : ℕ → Track → Track = λ t x. trackNew (trackLine s t .volume) in
       let g : ℕ → Track → Track = λ t x. trackNew (trackLine e t .volume) in
-      subst (λ (n : ℕ). ArrayLeft Track keep (s .«track_count») 32 absentTrack (changed f (s .«track_count») l) (changed g n l)) (sym (w .track-count))
-      (changed-left keep (s .«track_count») 32 absentTrack (ok .trackCount) l l f g (length-replicate 32 emptyTrack) (length-replicate 32 emptyTrack)
+      subst (λ (n : ℕ). ArrayLeft Track keep (s .«track_count») trackPlaces absentTrack (changed f (s .«track_count») l) (changed g n l)) (sym (w .track-count))
+      (changed-left keep (s .«track_count») trackPlaces absentTrack (ok .trackCount) l l f g (length-replicate trackPlaces emptyTrack) (length-replicate trackPlaces emptyTrack)
       (λ t b k. ap (λ (r : TrackLine). trackNew (r .volume)) (w .tracks t b k)))
 
-  routes-new : ArrayLeft Parameter (keptRouteLine keep s) (s .«route_count») 64 absentParameter (routesNew s) (routesNew e)
+  routes-new : ArrayLeft Parameter (keptRouteLine keep s) (s .«route_count») routeLines absentParameter (routesNew s) (routesNew e)
   unfolding routesNew
   routes-new =
-      let l = replicate 64 emptyParameter in
+      let l = replicate routeLines emptyParameter in
       let f : ℕ → Parameter → Parameter = λ r x. parameterNew (routeLine s r .volume) in
       let g : ℕ → Parameter → Parameter = λ r x. parameterNew (routeLine e r .volume) in
-      subst (λ (n : ℕ). ArrayLeft Parameter (keptRouteLine keep s) (s .«route_count») 64 absentParameter (changed f (s .«route_count») l) (changed g n l)) (sym (w .route-count))
-      (changed-left (keptRouteLine keep s) (s .«route_count») 64 absentParameter (ok .routeCount) l l f g (length-replicate 64 emptyParameter) (length-replicate 64 emptyParameter)
+      subst (λ (n : ℕ). ArrayLeft Parameter (keptRouteLine keep s) (s .«route_count») routeLines absentParameter (changed f (s .«route_count») l) (changed g n l)) (sym (w .route-count))
+      (changed-left (keptRouteLine keep s) (s .«route_count») routeLines absentParameter (ok .routeCount) l l f g (length-replicate routeLines emptyParameter) (length-replicate routeLines emptyParameter)
       (λ t b k. ap (λ (r : RouteLine). parameterNew (r .volume)) (w .routes t b k)))
 
   pub new-left : MixerLeft keep chosen s (mixerNew s) (mixerNew e)
@@ -94,8 +95,8 @@ module _ {keep chosen quiet : ℕ → Bool} {s : Scene} {samples : List Float} {
         tracks = tracks-new;
         routes = routes-new;
         played = record {
-          places = length-replicate {A = ℕ} 64 0;
-          places' = length-replicate {A = ℕ} 64 0;
-          same = λ k b t. nothing-played 64 (rank (keptSoundLine keep chosen s) k) ∙ sym (nothing-played 64 k);
+          places = length-replicate {A = ℕ} soundLines 0;
+          places' = length-replicate {A = ℕ} soundLines 0;
+          same = λ k b t. nothing-played soundLines (rank (keptSoundLine keep chosen s) k) ∙ sym (nothing-played soundLines k);
         };
       }

@@ -8,7 +8,7 @@ use lib.Dec.{T, le→leb, lit<, lit≤}
 use lib.IntN.{pos}
 use lib.ListN.{length, take, drop}
 use lib.Ieee.{Float, binary64, prec, inFloat}
-use Rattle.limits.specs.Limits.{chunkFramesMost, blockFramesMost, channelsMost}
+use Rattle.limits.specs.Limits.{chunkFramesMost, blockFramesMost, channelsMost, blocksMost}
 use Rattle.laws.proofs.laws.Loop.{upto-zero, upto-turn, upto-holds}
 use Rattle.laws.specs.Pieces.{pieces, begun}
 use Rattle.laws.proofs.laws.Pieces.{pieces-cong}
@@ -100,7 +100,7 @@ module _ (s : Scene) (ok : SceneOk s) where
       (λ i l x g. subst (λ (n : ℕ). MixerOk s n (blockDone s i x)) (next-block i (chunkCount (s .head))) (block-ok i (i * chunkCount (s .head)) x g))
 
   -- a show has no more chunks than clocks can count
-  all-chunks : (b q n B : ℕ) → b < n → n ≤ 1024 → q ≤ B → B ≤ blockFramesMost → b * q + q ≤ 2 ^ 20
+  all-chunks : (b q n B : ℕ) → b < n → n ≤ blocksMost → q ≤ B → B ≤ blockFramesMost → b * q + q ≤ 2 ^ 20
   all-chunks b q n B h k l r = le-trans (le-of-eq (next-block b q)) (le-trans (mul-le-mul (le-trans h k) (le-trans l r)) (lit≤ tt))
 
   pub chunks-few : (b : ℕ) → b < s .head .blocks → b * chunkCount (s .head) + chunkCount (s .head) ≤ 2 ^ 20

@@ -13,7 +13,7 @@ use Rattle.laws.proofs.laws.Count.{counted-le, some-picked, inRun, count-clear}
 use Rattle.scene_tables.specs.Bytes.{every}
 use Rattle.scene_questions.specs.Questions.{sampleOk, samplesOk}
 use Rattle.scene_tables.proofs.laws.Every.{every-at, every-all}
-use Rattle.scene_questions.proofs.laws.Tracks.{sampleTest}
+use Rattle.scene_questions.proofs.laws.LineQuestions.{sampleTest}
 
 -- ---- the samples of one run
 

@@ -20,9 +20,9 @@ use Rattle.scene_questions.specs.Questions.{Tables, Question, headCell, sizeOk,
 use Rattle.scene_questions.specs.Places.{rowsIn, countAt, countsFit, tablesPass, stored, placesMost, Low, questionAt}
 use Rattle.scene.specs.Scene.{sceneOf}
 use Rattle.scene_reader.specs.Answer.{also, refusal, answered, firstOfTables, lastOfTables}
-use Rattle.scene_questions.proofs.laws.Lengths.{size-small}
+use Rattle.scene_questions.proofs.laws.FileSize.{size-small}
 use Rattle.scene_questions.proofs.laws.FirstNo.{inOrder, number-at, asked-yes, asked-no, asked-all, yes-at}
-use Rattle.scene.proofs.laws.Whole.{rows-placed, counts-are, ranges-are, references-are}
+use Rattle.scene.proofs.laws.TablesInPlaces.{rows-placed, counts-are, ranges-are, references-are}
 use Rattle.scene_reader.proofs.laws.Read.{layout-test, read-placed}
 
 -- ---- the questions of the tables

@@ -10,6 +10,7 @@ use lib.Dec.{eqb}
 use lib.Ieee.{Float}
 use mir.Syntax.{w64}
 use mir.Val.{Fits}
+use Rattle.limits.specs.Limits.{blockFramesMost, blocksMost, channelsMost}
 use Rattle.scene_file.specs.Grammar.{tablesOf}
 use Rattle.scene_questions.specs.Questions.{Question, outputLength, firstNo, inputQuestions, answer}
 use Rattle.scene_questions.proofs.laws.FirstNo.{refused-first, passed-first}
@@ -23,16 +24,16 @@ use Rattle.scene_reader.proofs.laws.Answer.{answered-number, answered-s
 
 -- ---- the product
 
-module _ (b n : ℕ) (small-b : b ≤ 512) (small-n : n ≤ 1024) where
+module _ (b n : ℕ) (small-b : b ≤ blockFramesMost) (small-n : n ≤ blocksMost) where
   small : b * n ≤ 524288
   small = mul-le-mul small-b small-n
 
   pub product-fits : Fits w64 (b * n)
   product-fits = omega (arith, small)
 
-  pub product-fits-all : (c : ℕ) → c ≤ 8 → Fits w64 (b * n * c)
+  pub product-fits-all : (c : ℕ) → c ≤ channelsMost → Fits w64 (b * n * c)
   product-fits-all c small-c =
-      let k : b * n * c ≤ 524288 * 8 = mul-le-mul small small-c in
+      let k : b * n * c ≤ blockFramesMost * blocksMost * channelsMost = mul-le-mul small small-c in
       omega arith
 
 -- ---- one question more

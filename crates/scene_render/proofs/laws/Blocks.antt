@@ -7,6 +7,7 @@ use native.Mathlib.Nat.{le-trans, le-of-eq, le-of-lt, add-mul, zero-mul, mul-le-
 use native.Mathlib.Omega.{arith}
 use lib.ListN.{length, take, drop}
 use lib.Ieee.{Float}
+use Rattle.limits.specs.Limits.{blockFramesMost, blocksMost}
 use Rattle.laws.proofs.laws.Loop.{upto-zero, upto-turn}
 use Rattle.laws.specs.Pieces.{pieces, begun}
 use Rattle.laws.proofs.laws.Pieces.{length-pieces, part-put, begun-next, begun-end}
@@ -103,7 +104,7 @@ last-starts h some more e = le-of-lt (subst (λ (n : ℕ). (n - 1) * h .buffer <
 -- the chunks from block b on can be counted
 run-few : (s : Scene) → SceneOk s → (b : ℕ) → b < s .head .blocks → b * chunkCount (s .head) + (s .head .blocks - b) * chunkCount (s .head) ≤ 2 ^ 20
 run-few s ok b l =
-    let most : s .head .blocks * chunkCount (s .head) ≤ 1024 * 512 = mul-le-mul (ok .blocks .1) (le-trans (count-most (s .head) (ok .buffer .0)) (ok .block .1)) in
+    let most : s .head .blocks * chunkCount (s .head) ≤ blocksMost * blockFramesMost = mul-le-mul (ok .blocks .1) (le-trans (count-most (s .head) (ok .buffer .0)) (ok .block .1)) in
     le-trans (le-of-eq (sym (add-mul b (s .head .blocks - b) (chunkCount (s .head))) ∙ ap (λ (n : ℕ). n * chunkCount (s .head)) (whole b (s .head .blocks) l))) (omega (arith, most))
   where
     whole : (b n : ℕ) → b < n → b + (n - b) ≡ n

@@ -7,6 +7,7 @@ use native.Mathlib.Omega.{arith}
 use lib.Dec.{lit≤}
 use lib.ListN.{length, getD, take, drop}
 use lib.Ieee.{Float}
+use Rattle.limits.specs.Limits.{blocksMost}
 use Rattle.chunk.specs.Flat.{soundLeftsFrom}
 use Rattle.laws.specs.Pieces.{pieces, begun, putAt}
 use Rattle.laws.proofs.laws.Pieces.{pieces-zero, pieces-suc, pieces-next, pieces-cong, length-pieces, part-put, put-turn, begun-turn}
@@ -53,7 +54,7 @@ module _ {s : Scene} {m : Mixer} {first : ℕ} {samples : List Float} (ask : Run
   inside : first + j < s .head .blocks
   inside = omega (arith, next-most s first (ask .inside), stops)
 
-  pub run-short : first + j < 1024
+  pub run-short : first + j < blocksMost
   run-short = le-trans inside (ask .scene .blocks .1)
 
   pub run-fits : (first + j) * blockWidth s + blockWidth s ≤ 4194304

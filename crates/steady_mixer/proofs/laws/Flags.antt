@@ -9,6 +9,7 @@ use native.Mathlib.Omega.{arith}
 use lib.ListN.{length, getD, set, replicate}
 use lib.Seq.{getD-set-same, getD-set-other}
 use borrow.Author.Tests.{ne-eqb}
+use Rattle.limits.specs.Limits.{trackPlaces}
 use Rattle.laws.proofs.laws.Choice.{cond-false}
 use Rattle.scene.specs.declared.scene.TrackLine.{TrackLine}
 use Rattle.mixer.specs.declared.sub.Track.{Track}
@@ -21,7 +22,7 @@ module _ (tracks : List Track) where
   abbrev pub Flags : List Bool → ℕ → Type 0
   Flags live n = (k : ℕ) → k ≤ n → getD live k false ≡ liveAbove tracks k
 
-  pub flags-none : Flags (replicate 33 true) 0
+  pub flags-none : Flags (replicate (suc trackPlaces) true) 0
   unfolding liveAbove
   flags-none zero h = refl
   flags-none (suc k) h = absurd (omega arith)

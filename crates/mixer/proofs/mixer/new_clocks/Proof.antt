@@ -7,6 +7,7 @@ use native.Mathlib.Numerals.{add-one-le}
 use lib.Dec.{lit<}
 use lib.ListN.{getD, replicate}
 use lib.Ieee.{ofInt, ofBits}
+use Rattle.limits.specs.Limits.{clockLines}
 use Rattle.laws.specs.Loop.{changed}
 use Rattle.laws.proofs.laws.Loop.{changed-zero}
 use Rattle.clock.specs.declared.clock.Clock.{Clock}
@@ -24,7 +25,7 @@ abbrev made : List ClockLine → ℕ → Clock → Clock
 made lines i x = newClock (getD lines i absentClockLine .speed) (getD lines i absentClockLine .ticking)
 
 abbrev Inv-loop : tie.InvT-loop
-Inv-loop lines clocks₀ count i₀ clocks i = (i ≤ count) × (count ≤ 8) × (clocks ≡ changed (made lines) i (replicate 8 emptyClock))
+Inv-loop lines clocks₀ count i₀ clocks i = (i ≤ count) × (count ≤ clockLines) × (clocks ≡ changed (made lines) i (replicate clockLines emptyClock))
 
 abbrev μ-loop : tie.MeasureT-loop
 μ-loop lines clocks₀ count i₀ clocks i = count - i
@@ -34,7 +35,7 @@ new-requires c κs = tt
 
 loop-holds : tie.Need-loop-holds Inv-loop μ-loop
 unfolding emptyClock ofInt ofBits
-loop-holds c = (zero-le, c .before .before .pre, ap (replicate 8) (c .new .ensures) ∙ sym (changed-zero _ _))
+loop-holds c = (zero-le, c .before .before .pre, ap (replicate clockLines) (c .new .ensures) ∙ sym (changed-zero _ _))
 
 mul-line : tie.Need-mul-line Inv-loop μ-loop
 mul-line c = record { fits = scaled _ (c .loop-test .taken) (c .before .loop .inv .1) (lit< tt) }
@@ -63,7 +64,7 @@ loop-again c =
     let start = l .before .before .before in (
       add-one-le (c .before .before .loop-test .taken),
       l .loop .inv .1,
-      turned (made (start .args .scene .clocks)) (replicate 8 emptyClock) absentClock (l .loop .i) (c .new2 .ensures) (l .loop .inv .2),
+      turned (made (start .args .scene .clocks)) (replicate clockLines emptyClock) absentClock (l .loop .i) (c .new2 .ensures) (l .loop .inv .2),
     )
 
 returns : tie.Need-returns Inv-loop μ-loop
@@ -71,7 +72,7 @@ unfolding clocksNew
 returns c =
     let s = c .before .before .before .before .args .scene in
     ap {B = Clocks} (λ (clocks : List Clock). record { clocks = clocks; count = s .«clock_count» })
-    (ended (made (s .clocks)) (replicate 8 emptyClock) (c .before .loop .inv .0) (c .loop-test .left) (c .before .loop .inv .2))
+    (ended (made (s .clocks)) (replicate clockLines emptyClock) (c .before .loop .inv .0) (c .loop-test .left) (c .before .loop .inv .2))
 
 pub new-clocks-spec : {M : Type 1} → statement M
 new-clocks-spec =

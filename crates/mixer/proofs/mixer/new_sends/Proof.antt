@@ -7,6 +7,7 @@ use native.Mathlib.Numerals.{add-one-le}
 use lib.Dec.{lit<}
 use lib.ListN.{getD, replicate}
 use lib.Ieee.{ofInt, ofBits}
+use Rattle.limits.specs.Limits.{sendLines}
 use Rattle.laws.specs.Loop.{changed}
 use Rattle.laws.proofs.laws.Loop.{changed-zero}
 use Rattle.parameter.specs.declared.parameter.Parameter.{Parameter}
@@ -22,7 +23,7 @@ abbrev made : List SendLine → ℕ → Parameter → Parameter
 made lines i x = parameterNew (getD lines i absentSendLine .volume)
 
 abbrev Inv-loop : tie.InvT-loop
-Inv-loop lines sends₀ count i₀ sends i = (i ≤ count) × (count ≤ 8) × (sends ≡ changed (made lines) i (replicate 8 emptyParameter))
+Inv-loop lines sends₀ count i₀ sends i = (i ≤ count) × (count ≤ sendLines) × (sends ≡ changed (made lines) i (replicate sendLines emptyParameter))
 
 abbrev μ-loop : tie.MeasureT-loop
 μ-loop lines sends₀ count i₀ sends i = count - i
@@ -32,7 +33,7 @@ new-requires c κs = tt
 
 loop-holds : tie.Need-loop-holds Inv-loop μ-loop
 unfolding emptyParameter ofInt ofBits
-loop-holds c = (zero-le, c .before .before .pre, ap (replicate 8) (c .new .ensures) ∙ sym (changed-zero _ _))
+loop-holds c = (zero-le, c .before .before .pre, ap (replicate sendLines) (c .new .ensures) ∙ sym (changed-zero _ _))
 
 mul-line : tie.Need-mul-line Inv-loop μ-loop
 mul-line c = record { fits = scaled _ (c .loop-test .taken) (c .before .loop .inv .1) (lit< tt) }
@@ -61,12 +62,12 @@ loop-again c =
     let start = l .before .before .before in (
       add-one-le (c .before .before .before .loop-test .taken),
       l .loop .inv .1,
-      turned (made (start .args .scene .sends)) (replicate 8 emptyParameter) absentParameter (l .loop .i) (c .new2 .ensures) (l .loop .inv .2),
+      turned (made (start .args .scene .sends)) (replicate sendLines emptyParameter) absentParameter (l .loop .i) (c .new2 .ensures) (l .loop .inv .2),
     )
 
 returns : tie.Need-returns Inv-loop μ-loop
 unfolding sendsNew
-returns c = ended (made (c .before .before .before .before .args .scene .sends)) (replicate 8 emptyParameter) (c .before .loop .inv .0) (c .loop-test .left) (c .before .loop .inv .2)
+returns c = ended (made (c .before .before .before .before .args .scene .sends)) (replicate sendLines emptyParameter) (c .before .loop .inv .0) (c .loop-test .left) (c .before .loop .inv .2)
 
 pub new-sends-spec : {M : Type 1} → statement M
 new-sends-spec =

@@ -7,6 +7,7 @@ use native.Mathlib.Numerals.{add-one-le}
 use lib.Dec.{lit<}
 use lib.ListN.{getD, replicate}
 use lib.Ieee.{ofInt, ofBits}
+use Rattle.limits.specs.Limits.{trackLines, trackPlaces}
 use Rattle.laws.specs.Loop.{changed}
 use Rattle.laws.proofs.laws.Loop.{changed-zero}
 use Rattle.scene.specs.declared.scene.TrackLine.{TrackLine}
@@ -22,7 +23,7 @@ abbrev made : List TrackLine → ℕ → Track → Track
 made lines t x = trackNew (getD lines t absentTrackLine .volume)
 
 abbrev Inv-loop : tie.InvT-loop
-Inv-loop lines tracks₀ count t₀ tracks t = (t ≤ count) × (count ≤ 32) × (tracks ≡ changed (made lines) t (replicate 32 emptyTrack))
+Inv-loop lines tracks₀ count t₀ tracks t = (t ≤ count) × (count ≤ trackLines) × (tracks ≡ changed (made lines) t (replicate trackPlaces emptyTrack))
 
 abbrev μ-loop : tie.MeasureT-loop
 μ-loop lines tracks₀ count t₀ tracks t = count - t
@@ -32,7 +33,7 @@ new-requires c κs = tt
 
 loop-holds : tie.Need-loop-holds Inv-loop μ-loop
 unfolding emptyTrack ofInt ofBits
-loop-holds c = (zero-le, c .before .before .pre, ap (replicate 32) (c .new .ensures) ∙ sym (changed-zero _ _))
+loop-holds c = (zero-le, c .before .before .pre, ap (replicate trackPlaces) (c .new .ensures) ∙ sym (changed-zero _ _))
 
 mul-line : tie.Need-mul-line Inv-loop μ-loop
 mul-line c = record { fits = scaled _ (c .loop-test .taken) (c .before .loop .inv .1) (lit< tt) }
@@ -61,12 +62,12 @@ loop-again c =
     let start = l .before .before .before in (
       add-one-le (c .before .before .before .loop-test .taken),
       l .loop .inv .1,
-      turned (made (start .args .scene .tracks)) (replicate 32 emptyTrack) absentTrack (l .loop .t) (c .new2 .ensures) (l .loop .inv .2),
+      turned (made (start .args .scene .tracks)) (replicate trackPlaces emptyTrack) absentTrack (l .loop .t) (c .new2 .ensures) (l .loop .inv .2),
     )
 
 returns : tie.Need-returns Inv-loop μ-loop
 unfolding tracksNew
-returns c = ended (made (c .before .before .before .before .args .scene .tracks)) (replicate 32 emptyTrack) (c .before .loop .inv .0) (c .loop-test .left) (c .before .loop .inv .2)
+returns c = ended (made (c .before .before .before .before .args .scene .tracks)) (replicate trackPlaces emptyTrack) (c .before .loop .inv .0) (c .loop-test .left) (c .before .loop .inv .2)
 
 pub new-tracks-spec : {M : Type 1} → statement M
 new-tracks-spec =

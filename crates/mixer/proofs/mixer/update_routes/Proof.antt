@@ -4,6 +4,7 @@ use Prim.Native.Nat.{_-_, _≤_, zero-le}
 use native.Mathlib.Nat.{le-refl, lt-of-lt-of-le}
 use native.Mathlib.Numerals.{add-one-le}
 use lib.Dec.{lit<}
+use Rattle.limits.specs.Limits.{routeLines, trackPlaces}
 use Rattle.laws.specs.Loop.{changed}
 use Rattle.laws.proofs.laws.Loop.{changed-zero}
 use Rattle.mixer.specs.Mixer.{absentParameter, routeUpdate, routesUpdate}
@@ -13,7 +14,7 @@ use Rattle.mixer.proofs.mixer.update_routes.Statement.{statement}
 use Rattle.mixer.proofs.mixer.update_routes.Tie as tie
 
 abbrev Inv-loop : tie.InvT-loop
-Inv-loop count dt clocks lines tracks moved₀ r₀ moved r = (r ≤ count) × (count ≤ 64) × (moved ≡ changed (routeUpdate lines dt clocks tracks) r moved₀)
+Inv-loop count dt clocks lines tracks moved₀ r₀ moved r = (r ≤ count) × (count ≤ routeLines) × (moved ≡ changed (routeUpdate lines dt clocks tracks) r moved₀)
 
 abbrev μ-loop : tie.MeasureT-loop
 μ-loop count dt clocks lines tracks moved₀ r₀ moved r = count - r
@@ -37,7 +38,7 @@ mul-track : tie.Need-mul-track Inv-loop μ-loop
 mul-track c =
     let l = c .before .before .before in
     let names = l .before .pre .1 .0 (l .loop .r) (c .before .before .loop-test .taken) in
-    record { fits = scaled _ (line-within (names .0) (names .1)) (le-refl 32) (lit< tt) }
+    record { fits = scaled _ (line-within (names .0) (names .1)) (le-refl trackPlaces) (lit< tt) }
 
 array-copy-out-track : tie.Need-array-copy-out-track Inv-loop μ-loop
 array-copy-out-track c =

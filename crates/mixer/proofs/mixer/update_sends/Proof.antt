@@ -5,6 +5,7 @@ use native.Mathlib.Nat.{lt-of-lt-of-le}
 use native.Mathlib.Numerals.{add-one-le}
 use lib.Dec.{lit<}
 use lib.Ieee.{Float}
+use Rattle.limits.specs.Limits.{sendLines}
 use Rattle.laws.specs.Loop.{changed}
 use Rattle.laws.proofs.laws.Loop.{changed-zero}
 use Rattle.clock.specs.declared.when_to_start.Clocks.{Clocks}
@@ -20,7 +21,7 @@ abbrev after : Float → Clocks → ℕ → Parameter → Parameter
 after dt clocks i p = parameterUpdate p dt clocks .parameter
 
 abbrev Inv-loop : tie.InvT-loop
-Inv-loop count dt clocks moved₀ i₀ moved i = (i ≤ count) × (count ≤ 8) × (moved ≡ changed (after dt clocks) i moved₀)
+Inv-loop count dt clocks moved₀ i₀ moved i = (i ≤ count) × (count ≤ sendLines) × (moved ≡ changed (after dt clocks) i moved₀)
 
 abbrev μ-loop : tie.MeasureT-loop
 μ-loop count dt clocks moved₀ i₀ moved i = count - i

@@ -7,6 +7,7 @@ use native.Mathlib.Numerals.{add-one-le}
 use borrow.Author.Needs.{needs}
 use lib.Dec.{lit<}
 use lib.ListN.{getD, set}
+use Rattle.limits.specs.Limits.{trackPlaces}
 use Rattle.laws.specs.Loop.{upto}
 use Rattle.laws.proofs.laws.Loop.{upto-zero, upto-turn}
 use Rattle.mixer.specs.declared.sub.Track.{Track}
@@ -19,7 +20,7 @@ use Rattle.accepted.specs.Lines.{absentTrackLine}
 use Rattle.mixer.proofs.mixer.update_tracks.Tie as tie
 
 abbrev Inv-loop : tie.InvT-loop
-Inv-loop count dt clocks lines moved₀ t₀ moved t = (t ≤ count) × (count ≤ 32) × (moved ≡ upto (trackStep lines dt clocks) t moved₀)
+Inv-loop count dt clocks lines moved₀ t₀ moved t = (t ≤ count) × (count ≤ trackPlaces) × (moved ≡ upto (trackStep lines dt clocks) t moved₀)
 
 abbrev μ-loop : tie.MeasureT-loop
 μ-loop count dt clocks lines moved₀ t₀ moved t = count - t
@@ -41,7 +42,7 @@ mul-above : tie.Need-mul-above Inv-loop μ-loop
 mul-above c =
     let l = c .before .before .before in
     let t = c .before .before .loop-test .taken in
-    record { fits = scaled _ (place-within (c .place-of .ensures) (le-trans (l .before .pre .1 .0 (l .loop .t) t) (le-of-lt (lt-of-lt-of-le t (l .loop .inv .1)))) (lit< tt)) (le-refl 32) (lit< tt) }
+    record { fits = scaled _ (place-within (c .place-of .ensures) (le-trans (l .before .pre .1 .0 (l .loop .t) t) (le-of-lt (lt-of-lt-of-le t (l .loop .inv .1)))) (lit< tt)) (le-refl trackPlaces) (lit< tt) }
 
 array-copy-out-above : tie.Need-array-copy-out-above Inv-loop μ-loop
 array-copy-out-above c =

@@ -7,6 +7,7 @@ use native.Mathlib.Numerals.{add-one-le}
 use borrow.Author.Needs.{needs}
 use lib.Dec.{lit<}
 use lib.ListN.{getD}
+use Rattle.limits.specs.Limits.{soundLines, trackPlaces}
 use Rattle.laws.specs.Loop.{changed}
 use Rattle.laws.proofs.laws.Loop.{changed-zero}
 use Rattle.scene.specs.declared.scene.SoundLine.{SoundLine}
@@ -23,7 +24,7 @@ abbrev after : List SoundLine → List Track → ℕ → ℕ → ℕ → ℕ
 after lines tracks frames k done = playedAfter tracks (getD lines k absentSoundLine) frames done
 
 abbrev Inv-loop : tie.InvT-loop
-Inv-loop count frames played lines tracks next₀ k₀ next k = (k ≤ count) × (count ≤ 64) × (next ≡ changed (after lines tracks frames) k played)
+Inv-loop count frames played lines tracks next₀ k₀ next k = (k ≤ count) × (count ≤ soundLines) × (next ≡ changed (after lines tracks frames) k played)
 
 abbrev μ-loop : tie.MeasureT-loop
 μ-loop count frames played lines tracks next₀ k₀ next k = count - k
@@ -49,7 +50,7 @@ place-of-requires c κs = search needs
 mul-track : tie.Need-mul-track Inv-loop μ-loop
 mul-track c =
     let l = c .before .before .before in
-    record { fits = scaled _ (place-within (c .place-of .ensures) (l .before .pre .1 .0 (l .loop .k) (c .before .before .loop-test .taken)) (lit< tt)) (le-refl 32) (lit< tt) }
+    record { fits = scaled _ (place-within (c .place-of .ensures) (l .before .pre .1 .0 (l .loop .k) (c .before .before .loop-test .taken)) (lit< tt)) (le-refl trackPlaces) (lit< tt) }
 
 array-copy-out-track : tie.Need-array-copy-out-track Inv-loop μ-loop
 array-copy-out-track c =

@@ -1,6 +1,6 @@
 -- `clock_time_of` meets its contract. Assumes nothing.
 use borrow.Author.Needs.{needs}
-use Rattle.scene.proofs.laws.Typed.{clock-time-is}
+use Rattle.scene.proofs.laws.LineValues.{clock-time-is}
 use Rattle.scene.proofs.scene.clock_time_of.Statement.{statement}
 use Rattle.scene.proofs.scene.clock_time_of.Tie as tie
 

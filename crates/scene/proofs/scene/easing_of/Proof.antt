@@ -1,6 +1,6 @@
 -- `easing_of` meets its contract. Assumes nothing.
 use borrow.Author.Needs.{needs}
-use Rattle.scene.proofs.laws.Typed.{easing-linear, easing-in, easing-out, easing-in-out}
+use Rattle.scene.proofs.laws.LineValues.{easing-linear, easing-in, easing-out, easing-in-out}
 use Rattle.scene.proofs.scene.easing_of.Statement.{statement}
 use Rattle.scene.proofs.scene.easing_of.Tie as tie
 

@@ -1,6 +1,6 @@
 -- `head_of` meets its contract: each field is read from its place. Assumes nothing.
 use borrow.Author.Needs.{needs}
-use Rattle.scene.proofs.laws.Typed.{head-is}
+use Rattle.scene.proofs.laws.LineValues.{head-is}
 use Rattle.scene.proofs.scene.head_of.Statement.{statement}
 use Rattle.scene.proofs.scene.head_of.Tie as tie
 

@@ -1,6 +1,6 @@
 -- `no_scene` meets its contract. Assumes nothing.
 use borrow.Author.Needs.{needs}
-use Rattle.scene.proofs.laws.Whole.{no-scene-is}
+use Rattle.scene.proofs.laws.TablesInPlaces.{no-scene-is}
 use Rattle.scene.proofs.scene.no_scene.Statement.{statement}
 use Rattle.scene.proofs.scene.no_scene.Tie as tie
 

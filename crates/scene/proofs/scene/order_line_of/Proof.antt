@@ -1,6 +1,6 @@
 -- `order_line_of` meets its contract: each field is read from its place. Assumes nothing.
 use borrow.Author.Needs.{needs}
-use Rattle.scene.proofs.laws.Typed.{order-is}
+use Rattle.scene.proofs.laws.LineValues.{order-is}
 use Rattle.scene.proofs.scene.order_line_of.Statement.{statement}
 use Rattle.scene.proofs.scene.order_line_of.Tie as tie
 

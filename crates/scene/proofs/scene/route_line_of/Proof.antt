@@ -1,6 +1,6 @@
 -- `route_line_of` meets its contract: each field is read from its place. Assumes nothing.
 use borrow.Author.Needs.{needs}
-use Rattle.scene.proofs.laws.Typed.{route-is}
+use Rattle.scene.proofs.laws.LineValues.{route-is}
 use Rattle.scene.proofs.scene.route_line_of.Statement.{statement}
 use Rattle.scene.proofs.scene.route_line_of.Tie as tie
 

@@ -2,7 +2,7 @@
 use mathlib.Core.List.{[]}
 use native.Mathlib.Omega.{arith}
 use borrow.Author.Needs.{needs}
-use Rattle.scene.proofs.laws.Whole.{lies, scene-is}
+use Rattle.scene.proofs.laws.TablesInPlaces.{lies, scene-is}
 use Rattle.scene.proofs.scene.scene_of.Statement.{statement}
 use Rattle.scene.proofs.scene.scene_of.Tie as tie
 

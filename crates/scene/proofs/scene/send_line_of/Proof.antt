@@ -1,6 +1,6 @@
 -- `send_line_of` meets its contract: each field is read from its place. Assumes nothing.
 use borrow.Author.Needs.{needs}
-use Rattle.scene.proofs.laws.Typed.{send-is}
+use Rattle.scene.proofs.laws.LineValues.{send-is}
 use Rattle.scene.proofs.scene.send_line_of.Statement.{statement}
 use Rattle.scene.proofs.scene.send_line_of.Tie as tie
 

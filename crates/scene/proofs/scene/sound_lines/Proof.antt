@@ -8,7 +8,7 @@ use Rattle.limits.specs.Limits.{soundLines}
 use Rattle.scene_tables.specs.Tables.{tableAt, width, sounds}
 use Rattle.scene.specs.Scene.{filled, soundOf}
 use Rattle.scene_questions.specs.Places.{rowsIn}
-use Rattle.scene.proofs.laws.Typed.{fill-start, fill-next, fill-done}
+use Rattle.scene.proofs.laws.LineValues.{fill-start, fill-next, fill-done}
 use Rattle.scene.proofs.scene.sound_lines.Statement.{statement}
 use Rattle.scene.proofs.scene.sound_lines.Tie as tie
 

@@ -1,6 +1,6 @@
 -- `start_time_of` meets its contract. Assumes nothing.
 use borrow.Author.Needs.{needs}
-use Rattle.scene.proofs.laws.Typed.{start-clock, start-now, start-later}
+use Rattle.scene.proofs.laws.LineValues.{start-clock, start-now, start-later}
 use Rattle.scene.proofs.scene.start_time_of.Statement.{statement}
 use Rattle.scene.proofs.scene.start_time_of.Tie as tie
 

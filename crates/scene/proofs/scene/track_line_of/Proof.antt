@@ -1,6 +1,6 @@
 -- `track_line_of` meets its contract: each field is read from its place. Assumes nothing.
 use borrow.Author.Needs.{needs}
-use Rattle.scene.proofs.laws.Typed.{track-is}
+use Rattle.scene.proofs.laws.LineValues.{track-is}
 use Rattle.scene.proofs.scene.track_line_of.Statement.{statement}
 use Rattle.scene.proofs.scene.track_line_of.Tie as tie
 

@@ -1,6 +1,6 @@
 -- `volume_of` meets its contract. Assumes nothing.
 use borrow.Author.Needs.{needs}
-use Rattle.scene.proofs.laws.Typed.{volume-below, volume-above}
+use Rattle.scene.proofs.laws.LineValues.{volume-below, volume-above}
 use Rattle.scene.proofs.scene.volume_of.Statement.{statement}
 use Rattle.scene.proofs.scene.volume_of.Tie as tie
 

@@ -1,6 +1,6 @@
 -- `size_ok` meets its contract. Assumes nothing.
 use borrow.Author.Needs.{needs}
-use Rattle.scene_questions.proofs.laws.Lengths.{size-empty, size-large, size-last}
+use Rattle.scene_questions.proofs.laws.FileSize.{size-empty, size-large, size-last}
 use Rattle.scene_questions.proofs.lengths.size_ok.Statement.{statement}
 use Rattle.scene_questions.proofs.lengths.size_ok.Tie as tie
 

@@ -6,7 +6,7 @@ use borrow.Author.Needs.{needs}
 use native.Mathlib.Omega.{arith}
 use lib.ListN.{length}
 use Rattle.scene_tables.specs.Bytes.{every}
-use Rattle.scene_questions.proofs.laws.Tracks.{sampleTest, samples-none, samples-done}
+use Rattle.scene_questions.proofs.laws.LineQuestions.{sampleTest, samples-none, samples-done}
 use Rattle.scene_questions.proofs.laws.Samples.{run-passed, run-failed}
 use Rattle.scene_questions.proofs.samples.samples_ok.Statement.{statement}
 use Rattle.scene_questions.proofs.samples.samples_ok.Tie as tie

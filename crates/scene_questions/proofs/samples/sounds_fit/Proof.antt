@@ -9,7 +9,7 @@ use Rattle.scene_tables.specs.Bytes.{every}
 use Rattle.scene_tables.specs.Tables.{tableAt, width, sounds}
 use Rattle.scene_questions.specs.Questions.{soundFits}
 use Rattle.scene_questions.specs.Places.{rowsIn}
-use Rattle.scene_questions.proofs.laws.Tracks.{sounds-odd, sounds-none, sounds-failed, sounds-passed, sounds-done}
+use Rattle.scene_questions.proofs.laws.LineQuestions.{sounds-odd, sounds-none, sounds-failed, sounds-passed, sounds-done}
 use Rattle.scene_questions.proofs.samples.sounds_fit.Statement.{statement}
 use Rattle.scene_questions.proofs.samples.sounds_fit.Tie as tie
 

@@ -5,7 +5,7 @@ use Prim.Native.Nat.{_≤_, _-_}
 use borrow.Author.Needs.{needs}
 use native.Mathlib.Omega.{arith}
 use Rattle.scene_tables.specs.Bytes.{every}
-use Rattle.scene_questions.proofs.laws.Tracks.{depthTest, depths-none, depths-failed, depths-passed, depths-done}
+use Rattle.scene_questions.proofs.laws.LineQuestions.{depthTest, depths-none, depths-failed, depths-passed, depths-done}
 use Rattle.scene_questions.proofs.tracks.depths_fit.Statement.{statement}
 use Rattle.scene_questions.proofs.tracks.depths_fit.Tie as tie
 

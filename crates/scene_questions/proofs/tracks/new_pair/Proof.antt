@@ -7,7 +7,7 @@ use native.Mathlib.Omega.{arith}
 use Rattle.scene_tables.specs.Bytes.{every}
 use Rattle.scene_tables.specs.Tables.{tableAt, width, routes}
 use Rattle.scene_questions.specs.Places.{rowsIn}
-use Rattle.scene_questions.proofs.laws.Tracks.{pairTest, pairs-none, pairs-failed, pairs-passed, pairs-done}
+use Rattle.scene_questions.proofs.laws.LineQuestions.{pairTest, pairs-none, pairs-failed, pairs-passed, pairs-done}
 use Rattle.scene_questions.proofs.tracks.new_pair.Statement.{statement}
 use Rattle.scene_questions.proofs.tracks.new_pair.Tie as tie
 

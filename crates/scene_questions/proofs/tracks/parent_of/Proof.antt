@@ -1,6 +1,6 @@
 -- `parent_of` meets its contract. Assumes nothing.
 use borrow.Author.Needs.{needs}
-use Rattle.scene_questions.proofs.laws.Tracks.{parent-mixer, parent-beyond, parent-there}
+use Rattle.scene_questions.proofs.laws.LineQuestions.{parent-mixer, parent-beyond, parent-there}
 use Rattle.scene_questions.proofs.tracks.parent_of.Statement.{statement}
 use Rattle.scene_questions.proofs.tracks.parent_of.Tie as tie
 

@@ -8,7 +8,7 @@ use Rattle.scene_tables.specs.Bytes.{every}
 use Rattle.scene_tables.specs.Tables.{tableAt, width, routes}
 use Rattle.scene_questions.specs.Questions.{newPair}
 use Rattle.scene_questions.specs.Places.{rowsIn}
-use Rattle.scene_questions.proofs.laws.Tracks.{routes-none, routes-failed, routes-passed, routes-done}
+use Rattle.scene_questions.proofs.laws.LineQuestions.{routes-none, routes-failed, routes-passed, routes-done}
 use Rattle.scene_questions.proofs.tracks.routes_fit.Statement.{statement}
 use Rattle.scene_questions.proofs.tracks.routes_fit.Tie as tie
 

@@ -1,6 +1,6 @@
 -- `same_pair` meets its contract. Assumes nothing.
 use borrow.Author.Needs.{needs}
-use Rattle.scene_questions.proofs.laws.Tracks.{pair-differs, pair-same}
+use Rattle.scene_questions.proofs.laws.LineQuestions.{pair-differs, pair-same}
 use Rattle.scene_questions.proofs.tracks.same_pair.Statement.{statement}
 use Rattle.scene_questions.proofs.tracks.same_pair.Tie as tie
 

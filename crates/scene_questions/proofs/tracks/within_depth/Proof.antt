@@ -6,7 +6,7 @@ use Rattle.limits.specs.Limits.{trackDepth}
 use Rattle.scene_tables.specs.Tables.{tableAt, width, tracks}
 use Rattle.scene_questions.specs.Questions.{withinDepth}
 use Rattle.scene_questions.specs.Places.{rowsIn}
-use Rattle.scene_questions.proofs.laws.Tracks.{depth-mixer, depth-next, depth-done}
+use Rattle.scene_questions.proofs.laws.LineQuestions.{depth-mixer, depth-next, depth-done}
 use Rattle.scene_questions.proofs.tracks.within_depth.Statement.{statement}
 use Rattle.scene_questions.proofs.tracks.within_depth.Tie as tie
 

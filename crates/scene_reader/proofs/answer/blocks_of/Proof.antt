@@ -1,7 +1,7 @@
 -- `blocks_of` meets its contract. Assumes nothing.
 use borrow.Author.Needs.{needs}
 use lib.Dec.{lit<}
-use Rattle.scene.proofs.laws.Whole.{head-none, head-there}
+use Rattle.scene.proofs.laws.TablesInPlaces.{head-none, head-there}
 use Rattle.scene_reader.proofs.answer.blocks_of.Statement.{statement}
 use Rattle.scene_reader.proofs.answer.blocks_of.Tie as tie
 

@@ -1,11 +1,12 @@
 -- `tracks_steady` meets its contract. The invariant: the tracks below t stand still, and their flags are set. Assumes nothing.
 use mathlib.Core.Path.{_≡_, refl}
 use mathlib.Core.Bool.{true}
-use Prim.Native.Nat.{_-_, _≤_, zero-le}
+use Prim.Native.Nat.{suc, _-_, _≤_, zero-le}
 use native.Mathlib.Omega.{arith}
 use native.Mathlib.Numerals.{add-one-le}
 use lib.ListN.{length, length-set}
 use borrow.Author.Needs.{needs}
+use Rattle.limits.specs.Limits.{trackPlaces}
 use Rattle.scene_tables.specs.Bytes.{every}
 use Rattle.scene_tables.proofs.laws.Every.{every-none, every-done}
 use Rattle.steady_mixer.proofs.laws.Tests.{line-fails, line-passes}
@@ -15,7 +16,7 @@ use Rattle.steady_mixer.specs.Steady.{steadyTrack}
 use Rattle.steady_mixer.proofs.steady.tracks_steady.Tie as tie
 
 abbrev Inv-loop : tie.InvT-loop
-Inv-loop count lines tracks live₀ t₀ live t = (t ≤ count) × (every t (steadyTrack lines tracks) ≡ true) × (length live ≡ 33) × Flags tracks live t
+Inv-loop count lines tracks live₀ t₀ live t = (t ≤ count) × (every t (steadyTrack lines tracks) ≡ true) × (length live ≡ suc trackPlaces) × Flags tracks live t
 
 abbrev μ-loop : tie.MeasureT-loop
 μ-loop count lines tracks live₀ t₀ live t = count - t

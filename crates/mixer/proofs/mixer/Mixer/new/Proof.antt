@@ -1,5 +1,6 @@
 -- `Mixer::new` meets its contract. Assumes nothing.
 use lib.ListN.{replicate}
+use Rattle.limits.specs.Limits.{soundLines}
 use Rattle.mixer.specs.Mixer.{mixerNew}
 use Rattle.mixer.proofs.mixer.Mixer.new.Statement.{statement}
 use Rattle.mixer.proofs.mixer.Mixer.new.Tie as tie
@@ -33,7 +34,7 @@ returns c =
       tracks = tracks .new-tracks .ensures i;
       sends = sends .new-sends .ensures i;
       routes = routes .new-routes .ensures i;
-      played = replicate 64 0;
+      played = replicate soundLines 0;
     }
 
 pub new-spec : {M : Type 1} → statement M

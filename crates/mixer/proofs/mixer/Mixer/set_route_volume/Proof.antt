@@ -1,6 +1,7 @@
 -- `Mixer::set_route_volume` meets its contract. Assumes nothing.
 use native.Mathlib.Nat.{le-refl}
 use lib.Dec.{lit<}
+use Rattle.limits.specs.Limits.{routeLines}
 use Rattle.parameter.specs.Parameter.{parameterSet}
 use Rattle.laws.proofs.laws.Turns.{scaled}
 use Rattle.mixer.proofs.laws.Turns.{line-within}
@@ -12,7 +13,7 @@ sub-i : tie.Need-sub-i
 sub-i c = c .pre .0
 
 mul-volume : tie.Need-mul-volume
-mul-volume c = record { fits = scaled _ (line-within (c .before .pre .0) (c .before .pre .1)) (le-refl 64) (lit< tt) }
+mul-volume c = record { fits = scaled _ (line-within (c .before .pre .0) (c .before .pre .1)) (le-refl routeLines) (lit< tt) }
 
 array-copy-out-volume : tie.Need-array-copy-out-volume
 array-copy-out-volume c = line-within (c .before .pre .0) (c .before .pre .1)
@@ -21,7 +22,7 @@ set-requires : tie.Need-set-requires
 set-requires c κs = tt
 
 mul-routes : tie.Need-mul-routes
-mul-routes c = record { fits = scaled _ (line-within (c .before .before .before .pre .0) (c .before .before .before .pre .1)) (le-refl 64) (lit< tt) }
+mul-routes c = record { fits = scaled _ (line-within (c .before .before .before .pre .0) (c .before .before .before .pre .1)) (le-refl routeLines) (lit< tt) }
 
 array-set-from-routes : tie.Need-array-set-from-routes
 array-set-from-routes c = line-within (c .before .before .before .pre .0) (c .before .before .before .pre .1)

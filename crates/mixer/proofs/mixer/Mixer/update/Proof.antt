@@ -4,6 +4,7 @@ use mathlib.Core.List.{List}
 use Prim.Native.Nat.{_≤_}
 use native.Mathlib.Nat.{le-trans}
 use lib.Ieee.{Float}
+use Rattle.limits.specs.Limits.{clockLines}
 use Rattle.clock.specs.declared.when_to_start.Clocks.{Clocks}
 use Rattle.clock.specs.WhenToStart.{clocksUpdated, CanMoveAll}
 use Rattle.parameter.specs.declared.parameter.ParameterUpdate.{ParameterUpdate}
@@ -14,9 +15,9 @@ use Rattle.mixer.proofs.mixer.Mixer.update.Statement.{statement}
 use Rattle.mixer.proofs.mixer.Mixer.update.Tie as tie
 
 -- as many clocks as before
-few : {cs now : Clocks} {dt : Float} → CanMoveAll cs dt → now ≡ clocksUpdated cs dt → now .count ≤ 8
+few : {cs now : Clocks} {dt : Float} → CanMoveAll cs dt → now ≡ clocksUpdated cs dt → now .count ≤ clockLines
 unfolding clocksUpdated
-few {cs} {now} {dt} can e = subst (λ (x : Clocks). x .count ≤ 8) (sym e) (can .clocks .few)
+few {cs} {now} {dt} can e = subst (λ (x : Clocks). x .count ≤ clockLines) (sym e) (can .clocks .few)
 
 update-requires : tie.Need-update-requires
 update-requires c κs = c .before .pre .1 .1

@@ -32,7 +32,7 @@ use Rattle.scene.specs.Scene.{headOf, clockOf, trackOf, sendOf, routeOf,
 use Rattle.scene_tables.proofs.laws.Every.{all-at, every-at, every-same}
 use Rattle.scene_questions.proofs.laws.Places.{rows-length, row-at, cell-at, cell-beyond}
 use Rattle.scene_rules.proofs.laws.Passes.{fields-join}
-use Rattle.scene.proofs.laws.Typed.{beyond-end, fill-none}
+use Rattle.scene.proofs.laws.LineValues.{beyond-end, fill-none}
 
 -- ---- lines of a table
 
