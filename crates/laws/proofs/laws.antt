@@ -17,3 +17,4 @@ pub mod Amount
 pub mod Interpolate
 pub mod DecibelRange
 pub mod Turns
+pub mod Arithmetic

@@ -15,7 +15,7 @@ use Rattle.laws.specs.FloatRound.{Between}
 use Rattle.laws.proofs.laws.FloatRound.{number, units-most, at-grid, div-between, mul-between}
 use Rattle.clock.specs.Clock.{IsStep, span, oneSpan}
 use Rattle.clock.proofs.laws.Ticks.{whole-span}
-use Rattle.clock.proofs.laws.Moves.{zero-least}
+use Rattle.clock.proofs.laws.Moves.{zero-least, product-least}
 use Rattle.clock.specs.ChunkTime.{chunkTime}
 
 -- 1 / 256, and how many of the f64's smallest values it is
@@ -48,9 +48,6 @@ frame-fits : (U H r : ℕ) → H * 256 ≡ U → 256 ≤ r → U * U ≤ H * (r 
 frame-fits U H r e h = le-trans (mul-le-mul-right U (le-trans (le-of-eq (sym e)) (mul-le-mul-left H h))) (le-of-eq (mul-assoc H r U))
 
 -- a chunk of frames
-
-chunk-least : (U d d' n n' l l' : ℕ) → d' ≡ 0 → n' ≡ 0 → l ≡ 0 * U → d * n' + d' * n + l * U ≤ d * n + d' * n' + l' * U
-chunk-least U d d' n n' l l' p q r = rw (p, q, r) (omega arith)
 
 chunk-most : (U d d' n n' h h' : ℕ) → d' ≡ 0 → n' ≡ 0 → h ≡ 1 * U → h' ≡ 0 → d * n ≤ U * U → d * n + d' * n' + h' * U ≤ d * n' + d' * n + h * U
 chunk-most U d d' n n' h h' p q r s k = rw (p, q, r, s) (omega arith)
@@ -85,7 +82,7 @@ module _ (rate n : ℕ) (high : 256 ≤ rate) (held : rate < 2 ^ 53) (few : n �
       let l = zero-least oneSpan (span (whole 0)) (minus binary64 d) (span d) (minus binary64 (whole 0)) (z .1) (z .2) (one-sided binary64 d) (le→units binary64 (whole 0) d (z .0) N (frame .least)) in
       let m = at-most-part part (span d) (span two-fifty-sixth) (minus binary64 two-fifty-sixth) (minus binary64 d) (p .1) (p .2) l (units-most binary64 (whole 0) two-fifty-sixth d (z .0) (p .0) frame) in
       let b = mul-between binary64 d (whole n) (whole 0) (whole 1) N (c .0) (z .0) (o .0)
-      (chunk-least oneSpan (span d) (minus binary64 d) (span (whole n)) (minus binary64 (whole n)) (span (whole 0)) (minus binary64 (whole 0)) l (c .2) (z .1))
+      (product-least oneSpan (span d) (minus binary64 d) (span (whole n)) (minus binary64 (whole n)) (span (whole 0)) (minus binary64 (whole 0)) l (c .2) (z .1))
       (chunk-most oneSpan (span d) (minus binary64 d) (span (whole n)) (minus binary64 (whole n)) (span (whole 1)) (minus binary64 (whole 1)) l (c .2) (o .1) (o .2)
       (subst (λ (w : ℕ). span d * w ≤ oneSpan * oneSpan) (sym (c .1)) (chunk-fits oneSpan part (span d) n part-times m few))) in
       record { held = b .held; least = b .least; most = b .most }

@@ -6,12 +6,13 @@ use Prim.Native.Nat.{ℕ, _+_, _-_, _*_, _/_, _^_, _≤_, _<_, min}
 use native.Mathlib.Nat.{le-of-lt, lt-of-le-of-lt, lt-of-mul-lt-mul-right, sub-le, sub-add-cancel, one-mul, mul-comm, mul-assoc, mul-sub, zero-div, min-eq-left, div-lt-iff-lt-mul}
 use native.Mathlib.Omega.{arith}
 use mathlib.Core.Bool.{Bool, true, false, not}
-use lib.Dec.{T, leb, leb→le, nleb→lt, lit<}
+use lib.Dec.{T, leb, leb→le, nleb→lt}
 use lib.Pow.{pow-add, pow-pos}
-use lib.Ieee.{Float, nan, inf, fin, Format, binary32, binary64, prec, low, up, down, sub, toUnsigned}
+use lib.Ieee.{Float, nan, inf, fin, Format, prec, low, up, down, sub, toUnsigned}
 use lib.Ieee.Fits.{down-pos}
 use lib.Ieee.Nearest.{div-same}
 use lib.Ieee.Scale.{overflow}
+use Rattle.laws.proofs.laws.Arithmetic.{one-digit}
 use Rattle.laws.specs.FloatOrder.{Number, magnitude, plus, minus}
 use Rattle.laws.proofs.laws.FloatOrder.{OnGrid, plus-on-grid, magnitude-exact, one-sided}
 use Rattle.laws.proofs.laws.FloatRound.{sub-exact, at-integer}
@@ -59,10 +60,6 @@ less-one f w g h = go (leb (g .place) (low f)) (leb→le (g .place) (low f)) (nl
           under = fine;
         }
 
-one-short : (f : Format) → 1 < 2 ^ prec f
-one-short binary32 = lit< tt
-one-short binary64 = lit< tt
-
 -- ---- the difference
 
 -- p, q: x and one in units; their parts below zero, p' and q', are 0
@@ -77,7 +74,7 @@ pub one-less : (f : Format) (x : Float) → Number f x → minus f x ≡ 0 → u
 one-less f x N z h k =
     let one = integer f false 1 in
     let y = sub f x one in
-    let o : Number f one × (plus f one ≡ 1 * unit f) × (minus f one ≡ 0) = at-integer f false 1 (one-short f) in
+    let o : Number f one × (plus f one ≡ 1 * unit f) × (minus f one ≡ 0) = at-integer f false 1 (one-digit f) in
     let r = sub-exact f x one false (plus f x - unit f) N (o .0) (less-one f (plus f x) (plus-on-grid f x N) k) (exactly (unit f) (plus f x) (plus f one) (minus f x) (minus f one) (o .1) z (o .2) h) in
     let e = settled (unit f) (plus f x) (plus f one) (minus f x) (minus f one) (plus f y) (minus f y) (o .1) z (o .2) h (one-sided f y) (r .1) in
     record { number = r .0; least = e .0; exact = e .1 }

@@ -74,7 +74,7 @@ product U a b n h k =
     le-trans (mul-le-mul-right b h)
     (le-trans (le-of-eq (mul-right-comm 1000 U b)) (mul-le-mul-right U k))
 
-product-least : (U a a' b b' l l' : ℕ) → a' ≡ 0 → b' ≡ 0 → l ≡ 0 * U → a * b' + a' * b + l * U ≤ a * b + a' * b' + l' * U
+pub product-least : (U a a' b b' l l' : ℕ) → a' ≡ 0 → b' ≡ 0 → l ≡ 0 * U → a * b' + a' * b + l * U ≤ a * b + a' * b' + l' * U
 product-least U a a' b b' l l' p q r = rw (p, q, r) (omega arith)
 
 product-most : (U a a' b b' h h' n : ℕ) → a' ≡ 0 → b' ≡ 0 → h' ≡ 0 → h ≡ n * U → a * b ≤ n * U * U → a * b + a' * b' + h' * U ≤ a * b' + a' * b + h * U

@@ -4,16 +4,17 @@ use mathlib.Core.Path.{_≡_, refl, sym, ap, _∙_, subst}
 use Prim.Native.Nat.{ℕ, zero, suc, _+_, _-_, _*_, _^_, _≤_, _<_, zero-le}
 use native.Mathlib.Nat.{le-refl, le-trans, le-of-eq, le-of-lt, le-add-left, le-add-right, zero-add, suc-mul, lt-of-lt-of-le, lt-of-le-of-lt, not-le-of-lt, lt-irrefl, zero-mul, mul-one, one-mul, mul-pos, mul-le-mul, mul-le-mul-right, sub-le, zero-lt-suc}
 use native.Mathlib.Omega.{arith}
-use mathlib.Core.Bool.{Bool, true, false, not, _&&_, _||_, cond}
+use mathlib.Core.Bool.{Bool, true, false, not, cond}
 use lib.IntN.{ℤ, pos, negsuc}
-use lib.Dec.{T, ltb, eqb, ltb→lt, lt→ltb, nltb→le, eqb→eq, lit<, lit≤}
+use lib.Dec.{T, ltb, eqb, ltb→lt, lt→ltb, nltb→le, eqb→eq, lit≤}
 use lib.Pow.{pow-pos, pow-mono}
 use lib.Ieee.{Float, nan, inf, fin, Format, prec, emax, low, up, down, odd, units, round, sum, add, sub, mul, div, lt, le, fits}
-use lib.Ieee.Fits.{up-pos, down-pos, round-is, round-fits, mul-fits, two as two-digits}
+use lib.Ieee.Fits.{up-pos, down-pos, round-is, round-fits, mul-fits}
 use lib.Ieee.Order.{drop, kept, round-mono}
 use lib.Ieee.Scale.{finite}
 use lib.Ieee.Back.{round-whole}
 use lib.Ieee.Positive.{positive, positive-of-value, first-pos}
+use Rattle.laws.proofs.laws.Arithmetic.{or-le, one-digit}
 use Rattle.laws.specs.FloatOrder.{Number, plus, minus}
 use Rattle.laws.proofs.laws.FloatOrder.{OnGrid, lt→le, le→units, units→lt}
 use Rattle.laws.proofs.laws.FloatRound.{digits-below-low, at-integer, at-grid, div-least}
@@ -32,14 +33,6 @@ pub record InUnit (f : Format) (x : Float) : Type 0 where
 
 pub data AtMost (b : ℕ) (k : ℤ) : Float → Type 0 where
   fraction : (m : ℕ) (e : ℤ) → m * up e * down k ≤ b * up k * down e → AtMost b k (fin false m e)
-
-or-le : (a b : ℕ) → T (ltb a b || (eqb a b && true)) → a ≤ b
-or-le a b t = go (ltb a b) (ltb→lt a b) (eqb a b) (eqb→eq a b) t
-  where
-    go : (x : Bool) → (T x → a < b) → (y : Bool) → (T y → a ≡ b) → T (x || (y && true)) → a ≤ b
-    go true h y k t = le-of-lt (h tt)
-    go false h true k t = le-of-eq (k tt)
-    go false h false k t = absurd t
 
 pub at-most : (b : ℕ) (k : ℤ) (x : Float) → T (unsigned x) → T (le x (fin false b k)) → AtMost b k x
 unfolding le
@@ -255,9 +248,6 @@ unsigned-minus f (fin false m e) s = refl
 
 pub amount-minus : (f : Format) (x : Float) → InUnit f x → minus f x ≡ 0
 amount-minus f x h = unsigned-minus f x (h .sign)
-
-one-digit : (f : Format) → 1 < 2 ^ prec f
-one-digit f = lt-of-lt-of-le (lit< {m = 1} {n = 2 ^ 2} tt) (pow-mono (two-digits f))
 
 pub amount-plus : (f : Format) (x : Float) → InUnit f x → plus f x ≤ 2 ^ low f
 amount-plus f x h =

@@ -1,14 +1,15 @@
 -- Words for f32 and f64 values that contracts and laws share, over `lib.Ieee`, and what `fits` says of a value. Assumes nothing.
 use mathlib.Core.Path.{_≡_, refl, sym, ap, _∙_, subst}
 use Prim.Native.Nat.{ℕ, zero, suc, _-_, _*_, _%_, _^_, _≤_, _<_}
-use native.Mathlib.Nat.{le-of-suc-le-suc, lt-of-not-le, not-le-of-lt, mul-one, one-mul, mul-assoc, pow-succ', sub-add-cancel}
+use native.Mathlib.Nat.{mul-one, one-mul, mul-assoc, pow-succ', sub-add-cancel}
 use native.Mathlib.Omega.{arith}
 use mathlib.Core.Bool.{Bool, true, false, _&&_}
 use lib.IntN.{ℤ, pos, negsuc}
 use lib.Dec.{T, leb, ltb, eqb, eqb→eq, ltb→lt, leb→le}
-use lib.Pow.{pow-add, pow-pos, pow-lt}
+use lib.Pow.{pow-add, pow-pos}
 use lib.Ieee.{Float, fin, Format, binary32, binary64, prec, emax, low, up, down, fits, top, ofBits}
 use lib.Ieee.Fits.{and-l, and-r}
+use Rattle.laws.proofs.laws.Arithmetic.{exponent-le}
 use Rattle.laws.specs.Float.{posZero, negZero}
 
 -- x is one of the two
@@ -74,12 +75,9 @@ below-pow f s (suc m) e t = fits-parts f s m e t .fine
 
 -- ---- a value that fits is a whole number of the format's smallest value
 
-pow-reflect : (i j : ℕ) → 2 ^ i ≤ 2 ^ j → i ≤ j
-pow-reflect i j h = le-of-suc-le-suc (lt-of-not-le (λ (g : suc j ≤ i). not-le-of-lt (pow-lt g) h))
-
 low-parts : (l : ℕ) (e : ℤ) → down e ≤ 2 ^ l → (v : ℕ) × (2 ^ l ≡ 2 ^ v * down e)
 low-parts l (pos k) h = (l, sym (mul-one (2 ^ l)))
-low-parts l (negsuc k) h = (l - suc k, ap (λ (x : ℕ). 2 ^ x) (sym (sub-add-cancel (pow-reflect (suc k) l h))) ∙ pow-add 2 (l - suc k) (suc k))
+low-parts l (negsuc k) h = (l - suc k, ap (λ (x : ℕ). 2 ^ x) (sym (sub-add-cancel (exponent-le (suc k) l h))) ∙ pow-add 2 (l - suc k) (suc k))
 
 -- 2 ^ low is a power of two times the value's denominator
 pub fits-low : (f : Format) (s : Bool) (m : ℕ) (e : ℤ) → T (fits f (fin s m e)) → (v : ℕ) × (2 ^ low f ≡ 2 ^ v * down e)

@@ -4,18 +4,19 @@
 use mathlib.Core.Path.{_≡_, refl, sym, ap, _∙_, subst}
 use mathlib.Core.Logic.{_⊎_, inl, inr}
 use Prim.Native.Nat.{ℕ, zero, suc, _+_, _-_, _*_, _/_, _%_, _^_, _≤_, _<_}
-use native.Mathlib.Nat.{le-of-eq, le-of-lt, le-of-suc-le-suc, lt-of-lt-of-le, lt-of-le-of-lt, lt-of-not-le, not-le-of-lt, eq-or-lt-of-le, mul-one, add-zero, zero-add, add-comm, zero-mul, mul-comm, mul-assoc, mul-right-comm, add-mul, mul-div-cancel, mul-pos, mul-lt-mul-of-pos-right, lt-of-mul-lt-mul-right, eq-of-mul-eq-mul-right, sub-add-cancel}
+use native.Mathlib.Nat.{le-of-eq, le-of-lt, lt-of-lt-of-le, lt-of-le-of-lt, eq-or-lt-of-le, mul-one, add-zero, zero-add, add-comm, zero-mul, mul-comm, mul-assoc, mul-right-comm, add-mul, mul-div-cancel, mul-pos, mul-lt-mul-of-pos-right, lt-of-mul-lt-mul-right, eq-of-mul-eq-mul-right, sub-add-cancel}
 use native.Mathlib.Omega.{arith}
 use mathlib.Core.Bool.{Bool, true, false, not, _&&_, _||_, Bool·beq, cond}
 use lib.IntN.{ℤ, pos, negsuc}
 use lib.Dec.{T, leb, ltb, eqb, leb→le, le→leb, ltb→lt, lt→ltb, nltb→le, nleb→lt, eqb→eq, leb·suc-zero}
-use lib.Pow.{pow-add, pow-pos, pow-lt}
+use lib.Pow.{pow-add, pow-pos}
 use lib.Ieee.{Float, nan, inf, fin, Format, prec, emax, low, up, down, below, level, lt, eq, le, fits, isNan, neg, toBits, ofBits, top, hid, size}
 use lib.Ieee.Fits.{and-i, and-l, and-r, down-pos, eq→eqb, neg-fits}
 use lib.Ieee.Exact.{HasValue}
 use lib.Ieee.Scale.{finite, overflow}
 use lib.Ieee.Positive.{num, den}
 use lib.Ieee.Bits.{ofBits-toBits}
+use Rattle.laws.proofs.laws.Arithmetic.{exponent-le, both-ways, or-l, or-r}
 use Rattle.laws.proofs.laws.Choice.{and-true}
 use Rattle.laws.specs.FloatOrder.{magnitude, Number, plus, minus}
 
@@ -31,9 +32,6 @@ pub record OnGrid (f : Format) (w : ℕ) : Type 0 where
 
 zero-on-grid : (f : Format) → OnGrid f 0
 zero-on-grid f = record { digits = 0; place = 0; is = refl; few = pow-pos (prec f); under = pow-pos (low f + suc (emax f)) }
-
-exponent-le : (k l : ℕ) → 2 ^ k ≤ 2 ^ l → k ≤ l
-exponent-le k l h = le-of-suc-le-suc (lt-of-not-le (λ (g : l < k). not-le-of-lt (pow-lt g) h))
 
 -- 2 ^ e in units, for an exponent that the format has: 2 ^ place, and place is e + low f
 abbrev place : Format → ℤ → ℕ
@@ -113,22 +111,16 @@ magnitude-on-grid f (fin s (suc m) e) N =
 
 -- ---- tests that agree
 
-same-test : (b c : Bool) → (T b → T c) → (T c → T b) → b ≡ c
-same-test true true h k = refl
-same-test true false h k = absurd (h tt)
-same-test false true h k = absurd (k tt)
-same-test false false h k = refl
-
 -- A / B in one unit are a / b in another
 ltb-scale : (U D A B a b : ℕ) → 0 < U → 0 < D → A * U ≡ a * D → B * U ≡ b * D → ltb A B ≡ ltb a b
 ltb-scale U D A B a b u d p q =
-    same-test (ltb A B) (ltb a b)
+    both-ways (ltb A B) (ltb a b)
     (λ t. lt→ltb a b (lt-of-mul-lt-mul-right D (lt-of-le-of-lt (le-of-eq (sym p)) (lt-of-lt-of-le (mul-lt-mul-of-pos-right (ltb→lt A B t) u) (le-of-eq q)))))
     (λ t. lt→ltb A B (lt-of-mul-lt-mul-right U (lt-of-le-of-lt (le-of-eq p) (lt-of-lt-of-le (mul-lt-mul-of-pos-right (ltb→lt a b t) d) (le-of-eq (sym q))))))
 
 eqb-scale : (U D A B a b : ℕ) → 0 < U → 0 < D → A * U ≡ a * D → B * U ≡ b * D → eqb A B ≡ eqb a b
 eqb-scale U D A B a b u d p q =
-    same-test (eqb A B) (eqb a b)
+    both-ways (eqb A B) (eqb a b)
     (λ t. eq→eqb (eq-of-mul-eq-mul-right D d a b (sym p ∙ ap (λ (z : ℕ). z * U) (eqb→eq A B t) ∙ q)))
     (λ t. eq→eqb (eq-of-mul-eq-mul-right U u A B (p ∙ ap (λ (z : ℕ). z * D) (eqb→eq a b t) ∙ sym q)))
 
@@ -174,7 +166,7 @@ below-is true a true b = simp zero-add
 
 both-zero : (a b : ℕ) → (eqb a b && eqb a 0) ≡ eqb (a + b) 0
 both-zero a b =
-    same-test (eqb a b && eqb a 0) (eqb (a + b) 0)
+    both-ways (eqb a b && eqb a 0) (eqb (a + b) 0)
     (λ h. eq→eqb (sum-zero a b (eqb→eq a b (and-l (eqb a b) (eqb a 0) h)) (eqb→eq a 0 (and-r (eqb a b) (eqb a 0) h))))
     (λ h. and-i (eqb a b) (eqb a 0) (eq→eqb (first-second a b (eqb→eq (a + b) 0 h))) (eq→eqb (first-zero a b (eqb→eq (a + b) 0 h))))
   where
@@ -188,7 +180,7 @@ both-zero a b =
     first-zero a b h = omega arith
 
 eqb-swap : (a b : ℕ) → eqb a b ≡ eqb b a
-eqb-swap a b = same-test (eqb a b) (eqb b a) (λ h. eq→eqb (sym (eqb→eq a b h))) (λ h. eq→eqb (sym (eqb→eq b a h)))
+eqb-swap a b = both-ways (eqb a b) (eqb b a) (λ h. eq→eqb (sym (eqb→eq a b h))) (λ h. eq→eqb (sym (eqb→eq b a h)))
 
 level-is : (s : Bool) (a : ℕ) (t : Bool) (b : ℕ) → level s a t b ≡ eqb (cond s 0 a + cond t b 0) (cond t 0 b + cond s a 0)
 level-is false a false b = and-true (eqb a b) ∙ simp add-zero
@@ -197,19 +189,11 @@ level-is true a false b = both-zero a b ∙ eqb-swap (a + b) 0 ∙ ap (λ (z : �
 level-is true a true b = and-true (eqb a b) ∙ eqb-swap a b ∙ simp zero-add
 
 leb-split : (a b : ℕ) → (ltb a b || eqb a b) ≡ leb a b
-leb-split a b = same-test (ltb a b || eqb a b) (leb a b) (λ h. le→leb a b (there (ltb a b) (ltb→lt a b) h)) (λ h. back (leb→le a b h))
+leb-split a b = both-ways (ltb a b || eqb a b) (leb a b) (λ h. le→leb a b (there (ltb a b) (ltb→lt a b) h)) (λ h. back (leb→le a b h))
   where
     there : (t : Bool) → (T t → a < b) → T (t || eqb a b) → a ≤ b
     there true p h = le-of-lt (p tt)
     there false p h = le-of-eq (eqb→eq a b h)
-
-    or-l : (x y : Bool) → T x → T (x || y)
-    or-l true y h = tt
-    or-l false y h = absurd h
-
-    or-r : (x y : Bool) → T y → T (x || y)
-    or-r true y h = tt
-    or-r false y h = h
 
     back : a ≤ b → T (ltb a b || eqb a b)
     back h = elim (eq-or-lt-of-le h) [ inl p ↦ or-r (ltb a b) (eqb a b) (eq→eqb p) | inr p ↦ or-l (ltb a b) (eqb a b) (lt→ltb a b p) ]

@@ -15,6 +15,7 @@ use lib.Ieee.Exact.{HasValue, round-exact}
 use lib.Ieee.Order.{round-mono}
 use lib.Ieee.Scale.{round-same}
 use lib.Ieee.Positive.{above, above-of-le, positive-of-value}
+use Rattle.laws.proofs.laws.Arithmetic.{one-digit}
 use Rattle.laws.proofs.laws.Float.{Zero, positive-zero, negative-zero, sign-of, fits-parts, fits-zero, fits-low}
 
 -- ---- the sign
@@ -175,16 +176,12 @@ round-own f s (suc m) e t =
 
 -- ---- a fraction that is the format's smallest value at least does not become a zero
 
-one-small : (f : Format) → 1 < 2 ^ prec f
-one-small binary32 = lit< tt
-one-small binary64 = lit< tt
-
 unit-below : (f : Format) → 1 * 2 ^ 0 < 2 ^ (low f + suc (emax f))
 unit-below binary32 = lit< tt
 unit-below binary64 = lit< tt
 
 unit-value : (f : Format) → HasValue (round f false 1 (2 ^ low f)) false 1 (2 ^ low f)
-unit-value f = round-exact f false 1 (2 ^ low f) 1 0 (pow-pos (low f)) (one-small f) (unit-below f) refl
+unit-value f = round-exact f false 1 (2 ^ low f) 1 0 (pow-pos (low f)) (one-digit f) (unit-below f) refl
 
 above-not-zero : (x : Float) → T (above x) → Zero x → ⊥
 above-not-zero x a z = go (sign-of z .0) (subst (λ (y : Float). T (above y)) (sign-of z .1) a)

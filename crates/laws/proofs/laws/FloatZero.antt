@@ -4,7 +4,7 @@
 use mathlib.Core.Path.{_≡_, refl, sym, ap, ap₂, _∙_, subst}
 use mathlib.Core.Logic.{_≢_}
 use Prim.Native.Nat.{ℕ, zero, suc, _+_, _-_, _*_, _^_, _≤_, _<_}
-use native.Mathlib.Nat.{le-of-eq, le-trans, zero-lt-suc, zero-mul, mul-zero, mul-one, one-mul, mul-comm, mul-assoc, mul-right-comm, add-mul, mul-pos, mul-le-mul-right, add-zero, sub-zero, mul-sub}
+use native.Mathlib.Nat.{le-of-eq, le-trans, zero-lt-suc, zero-mul, mul-zero, mul-one, one-mul, mul-comm, mul-assoc, mul-right-comm, add-mul, mul-pos, mul-le-mul-right, add-zero, sub-zero}
 use native.Mathlib.Omega.{arith}
 use mathlib.Core.Bool.{Bool, true, false, Bool·beq, cond, false≢true}
 use lib.IntN.{ℤ, pos}
@@ -15,6 +15,7 @@ use lib.Ieee.Bits.{is-true}
 use lib.Ieee.Fits.{up-pos, down-pos}
 use lib.Ieee.Scale.{finite}
 use lib.Ieee.Positive.{first-pos}
+use Rattle.laws.proofs.laws.Arithmetic.{minus-times}
 use Rattle.laws.specs.Float.{posZero, negZero}
 use Rattle.laws.proofs.laws.Float.{Zero, negative-zero, zero-of, sign-of, fits-zero, fits-whole}
 use Rattle.laws.proofs.laws.FloatValue.{Plus, round-plus, round-zero, round-own, round-not-zero}
@@ -76,9 +77,6 @@ whole-not-zero f s n c w C N h z = round-not-zero f s n c C (subst (λ (x : ℕ)
     times : (k : ℕ) → 0 < k → c ≤ k * c
     times k K = le-trans (le-of-eq (sym (one-mul c))) (mul-le-mul-right c K)
 
-times-diff : (a b c : ℕ) → (a - b) * c ≡ a * c - b * c
-times-diff a b c = mul-comm (a - b) c ∙ mul-sub c a b ∙ ap₂ (λ (x y : ℕ). x - y) (mul-comm c a) (mul-comm c b)
-
 -- a zero is finite, so nothing else is one
 plain : (x : Float) → x ≡ negZero → T (finite x)
 plain x e = subst (λ (z : Float). T (finite z)) (sym e) tt
@@ -101,10 +99,10 @@ module _ (f : Format) (a b c v w : ℕ) (C : 0 < c) (A : a * 2 ^ low f ≡ v * c
   both = add-mul a b (2 ^ low f) ∙ ap₂ (λ (x y : ℕ). x + y) A B ∙ sym (add-mul v w c)
 
   less : (a - b) * 2 ^ low f ≡ (v - w) * c
-  less = times-diff a b (2 ^ low f) ∙ ap₂ (λ (x y : ℕ). x - y) A B ∙ sym (times-diff v w c)
+  less = minus-times a b (2 ^ low f) ∙ ap₂ (λ (x y : ℕ). x - y) A B ∙ sym (minus-times v w c)
 
   more : (b - a) * 2 ^ low f ≡ (w - v) * c
-  more = times-diff b a (2 ^ low f) ∙ ap₂ (λ (x y : ℕ). x - y) B A ∙ sym (times-diff w v c)
+  more = minus-times b a (2 ^ low f) ∙ ap₂ (λ (x y : ℕ). x - y) B A ∙ sym (minus-times w v c)
 
   sum-not-neg : (s t : Bool) → (s ≡ true → 0 < a) → sum f s a t b c ≢ negZero
   unfolding sum

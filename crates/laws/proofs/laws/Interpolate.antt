@@ -4,14 +4,15 @@
 use mathlib.Core.Path.{_≡_, refl, sym, ap, _∙_, subst}
 use mathlib.Core.Logic.{_⊎_, inl, inr}
 use Prim.Native.Nat.{ℕ, suc, _+_, _-_, _*_, _/_, _^_, _≤_, _<_, zero-le}
-use native.Mathlib.Nat.{le-refl, le-trans, le-of-eq, le-of-lt, le-add-right, le-add-left, lt-of-lt-of-le, lt-of-le-of-lt, not-le-of-lt, zero-mul, mul-zero, mul-comm, mul-assoc, mul-right-comm, add-zero, zero-add, add-comm, add-mul, suc-mul, mul-add, mul-pos, mul-le-mul-right, div-mul-le-self, lt-div-mul-add, le-of-mul-le-mul-right, lt-of-mul-lt-mul-right, mul-lt-mul-of-pos-right, lt-of-not-le, zero-lt-suc, add-suc, pow-suc, sub-add-cancel, sub-le, mul-sub, le-dest}
+use native.Mathlib.Nat.{le-refl, le-trans, le-of-eq, le-of-lt, le-add-right, le-add-left, lt-of-lt-of-le, lt-of-le-of-lt, zero-mul, mul-zero, mul-comm, mul-assoc, mul-right-comm, add-zero, zero-add, add-comm, add-mul, suc-mul, mul-add, mul-pos, mul-le-mul-right, div-mul-le-self, lt-div-mul-add, le-of-mul-le-mul-right, lt-of-mul-lt-mul-right, mul-lt-mul-of-pos-right, zero-lt-suc, add-suc, pow-suc, sub-add-cancel, sub-le, mul-sub, le-dest}
 use native.Mathlib.Omega.{arith}
 use mathlib.Core.Bool.{Bool, true, false, cond}
 use lib.Dec.{T}
-use lib.Pow.{pow-add, pow-pos, pow-mono, shl-lt}
+use lib.Pow.{pow-add, pow-pos, shl-lt}
 use lib.Ieee.{Float, Format, prec, low, sub, mul, le}
 use lib.Ieee.Fits.{sub-fits}
 use lib.Ieee.Scale.{finite}
+use Rattle.laws.proofs.laws.Arithmetic.{exponent-lt}
 use Rattle.laws.specs.FloatOrder.{Number, plus, minus}
 use Rattle.laws.proofs.laws.FloatOrder.{OnGrid, le→units, units→le, minus-on-grid, one-sided}
 use Rattle.laws.proofs.laws.FloatRound.{below-or-not, digits-below-low, between-widens, at-integer, number, units-least, units-most, units-between, add-most, add-least, add-between, sub-most, sub-least, sub-between, sub-exact, mul-between}
@@ -396,9 +397,6 @@ multiple f w j g h =
     let i : j ≤ k = less (prec f) j k (exponent-lt (prec f + j) (prec f + suc k) l) in
     (g .digits * 2 ^ (k - j), g .is ∙ ap (λ (z : ℕ). g .digits * z) (ap (λ (z : ℕ). 2 ^ z) (sym (sub-add-cancel i)) ∙ pow-add 2 (k - j) j) ∙ sym (mul-assoc (g .digits) (2 ^ (k - j)) (2 ^ j)))
   where
-    exponent-lt : (k l : ℕ) → 2 ^ k < 2 ^ l → k < l
-    exponent-lt k l h = lt-of-not-le (λ (g : l ≤ k). not-le-of-lt h (pow-mono g))
-
     less : (p j k : ℕ) → p + j < p + suc k → j ≤ k
     less p j k h = omega arith
 

@@ -9,6 +9,7 @@ use lib.Dec.{T, T-not, not-T, eqb, ltb, eqb→eq, lt→ltb, ltb→lt, nltb→le}
 use lib.Ieee.{Float}
 use lib.Ieee.Bits.{is-false}
 use lib.Ieee.Fits.{and-l, and-r}
+use Rattle.laws.proofs.laws.Arithmetic.{both-ways}
 use Rattle.laws.specs.Loop.{upto}
 use Rattle.laws.specs.Kept.{rank}
 use Rattle.laws.proofs.laws.Kept.{rank-lt, rank-mono, kept-or-removed, upto-kept}
@@ -18,7 +19,7 @@ use Rattle.scene.specs.declared.scene.OrderKind.{OrderKind}
 use Rattle.scene.specs.declared.scene.OrderKind.the-variants.{MainVolume, TrackVolume, SendVolume, RouteVolume, Pause, Resume}
 use Rattle.accepted.specs.Lines.{orderLine}
 use Rattle.order_lines.specs.Orders.{kindNumber, foundLater, overridden, counts, sameKindAndIndex}
-use Rattle.noninterference.proofs.laws.Lines.{both-ways, same-test}
+use Rattle.noninterference.proofs.laws.Lines.{same-test}
 use Rattle.noninterference.proofs.laws.SceneLeft.{keptRouteLine, keptIndex, keptOrder, newIndex, newOrderLine, SceneLeft}
 
 -- ---- kinds by their numbers

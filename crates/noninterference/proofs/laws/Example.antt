@@ -100,12 +100,12 @@ silence-in =
     record { before = h; now = h }
 
 -- two lines, and one
-two : (P : ℕ → Type 0) → P 0 → P 1 → (j : ℕ) → j < 2 → P j
+pub two : (P : ℕ → Type 0) → P 0 → P 1 → (j : ℕ) → j < 2 → P j
 two P a b zero l = a
 two P a b (suc zero) l = b
 two P a b (suc (suc j)) l = absurd (omega arith)
 
-only : (P : ℕ → Type 0) → P 0 → (j : ℕ) → j < 1 → P j
+pub only : (P : ℕ → Type 0) → P 0 → (j : ℕ) → j < 1 → P j
 only P a zero l = a
 only P a (suc j) l = absurd (omega arith)
 

@@ -7,6 +7,7 @@ use native.Mathlib.Omega.{arith}
 use lib.Dec.{T, eqb, eqb→eq, not-T}
 use lib.Ieee.Bits.{is-true, is-false}
 use lib.Ieee.Fits.{and-l, and-i, eq→eqb}
+use Rattle.laws.proofs.laws.Arithmetic.{both-ways}
 use Rattle.laws.specs.Kept.{rank}
 use Rattle.laws.proofs.laws.Kept.{rank-inj}
 use Rattle.noninterference.specs.Removed.{newLine}
@@ -40,12 +41,6 @@ module _ (keep : ℕ → Bool) where
   newLine-inj zero (suc b) s t e = absurd (omega arith)
   newLine-inj (suc a) zero s t e = absurd (omega arith)
   newLine-inj (suc a) (suc b) s t e = ap suc (rank-inj keep a b s t (omega arith))
-
-pub both-ways : (p q : Bool) → (T p → T q) → (T q → T p) → p ≡ q
-both-ways true true f g = refl
-both-ways true false f g = absurd (f tt)
-both-ways false true f g = absurd (g tt)
-both-ways false false f g = refl
 
 -- two lines kept are the same line exactly if their new numbers are the same
 pub same-test : (keep : ℕ → Bool) (a b : ℕ) → T (keptLine keep a) → T (keptLine keep b) → eqb (newLine keep a) (newLine keep b) ≡ eqb a b

@@ -1,14 +1,14 @@
 -- The two mixers in time: at every chunk they share what is kept, and the chosen tracks are silent. Assumes nothing.
 use mathlib.Core.Path.{_≡_, sym, ap, subst}
 use mathlib.Core.Logic.{_⊎_, inl, inr}
-use mathlib.Core.Bool.{Bool, true, false, cond}
+use mathlib.Core.Bool.{Bool, false}
 use mathlib.Core.List.{List}
-use Prim.Native.Nat.{ℕ, zero, suc, _-_, _*_, _≤_, _<_}
-use native.Mathlib.Nat.{le-refl, le-trans, lt-of-le-of-lt, lt-of-lt-of-le}
-use native.Mathlib.Omega.{arith}
-use lib.Dec.{T, ltb, ltb→lt, lit<, lit≤}
+use Prim.Native.Nat.{ℕ, zero, suc, _≤_, _<_}
+use native.Mathlib.Nat.{le-trans, lt-of-le-of-lt, lt-of-lt-of-le}
+use lib.Dec.{T, lit<, lit≤}
 use lib.ListN.{replicate, length-replicate}
 use lib.Ieee.{Float}
+use Rattle.renderer.proofs.laws.Lengths.{frames-most}
 use Rattle.limits.specs.Limits.{chunkFramesMost, trackPlaces}
 use Rattle.laws.specs.Loop.{upto}
 use Rattle.laws.proofs.laws.Loop.{changed-below}
@@ -53,14 +53,6 @@ pub record ChunkLeft (keep chosen quiet : ℕ → Bool) (s : Scene) (m m' : Mixe
   pub silent : (t : ℕ) → t < s .«track_count» → T (chosen t) → SilentNow quiet s t (stateOf (m .tracks) t)
 
 -- ---- a chunk's length
-
-frames-most : (h : Head) (k : ℕ) → chunkFrames h k ≤ h .buffer
-unfolding chunkFrames
-frames-most h k = go (ltb (h .block - k * h .buffer) (h .buffer)) (λ t. ltb→lt (h .block - k * h .buffer) (h .buffer) t)
-  where
-    go : (b : Bool) → (T b → h .block - k * h .buffer < h .buffer) → cond b (h .block - k * h .buffer) (h .buffer) ≤ h .buffer
-    go true l = omega (arith, l tt)
-    go false l = le-refl (h .buffer)
 
 module _ {s : Scene} (ok : SceneOk s) (k : ℕ) where
   pub frames-few : chunkFrames (s .head) k ≤ chunkFramesMost

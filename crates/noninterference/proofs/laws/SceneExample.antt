@@ -9,6 +9,7 @@ use native.Mathlib.Omega.{arith}
 use lib.Dec.{T, T-not, eqb, lit<}
 use lib.Ieee.{Float}
 use lib.Ieee.Fits.{eq→eqb}
+use Rattle.noninterference.proofs.laws.Example.{two, only}
 use Rattle.laws.specs.Kept.{rank}
 use Rattle.laws.specs.Float.{posZero, one}
 use Rattle.laws.proofs.laws.DecibelRange.{SilentRange, minus-sixty, minus-sixty-silent}
@@ -99,15 +100,6 @@ rest =
     }
 
 -- the lines one by one
-only : (P : ℕ → Type 0) → P 0 → (j : ℕ) → j < 1 → P j
-only P a zero l = a
-only P a (suc j) l = absurd (omega arith)
-
-two : (P : ℕ → Type 0) → P 0 → P 1 → (j : ℕ) → j < 2 → P j
-two P a b zero l = a
-two P a b (suc zero) l = b
-two P a b (suc (suc j)) l = absurd (omega arith)
-
 five : (P : ℕ → Type 0) → P 0 → P 1 → P 2 → P 3 → P 4 → (j : ℕ) → j < 5 → P j
 five P a b c d e zero l = a
 five P a b c d e (suc zero) l = b

@@ -2,7 +2,7 @@
 use mathlib.Core.Path.{_≡_, refl, sym, ap, _∙_, subst, subst₂}
 use mathlib.Core.Bool.{Bool, true, false, not, true≢false}
 use Prim.Native.Nat.{ℕ, zero, suc, _+_, _-_, _*_, _%_, _≤_, _<_, min}
-use native.Mathlib.Nat.{le-trans, le-of-eq, mul-comm, mul-assoc, mul-one, one-mul, mul-pos, mul-le-mul-right, add-mul, mul-right-comm, mul-sub, le-of-mul-le-mul-right}
+use native.Mathlib.Nat.{le-trans, le-of-eq, mul-comm, mul-assoc, mul-one, one-mul, mul-pos, mul-le-mul-right, add-mul, mul-right-comm, le-of-mul-le-mul-right}
 use native.Mathlib.Decide.{decLe}
 use native.Mathlib.Omega.{arith}
 use lib.Dec.{T, ltb}
@@ -12,6 +12,7 @@ use borrow.Author.Tests.{lt-ltb}
 use lib.Ieee.Fits.{down-pos}
 use lib.Ieee.Exact.{HasValue}
 use lib.Ieee.Scale.{round-same}
+use Rattle.laws.proofs.laws.Arithmetic.{minus-times}
 use Rattle.laws.proofs.laws.Choice.{cond-true}
 use Rattle.laws.specs.FloatBounds.{Within}
 use Rattle.laws.proofs.laws.FloatBounds.{within-of-tests, holds-value, holds-small}
@@ -21,9 +22,6 @@ use Rattle.rounding.proofs.laws.Nearest.{nearest-quotient-nearest, nearest-quot
 use Rattle.rounding.proofs.laws.Rounding.{bits}
 use Rattle.pcm.specs.Sample.{InRange, bits16, raised16, nearest16}
 use Rattle.pcm.proofs.laws.Scaled.{scaled-value, whole-bits}
-
-sub-mul : (m n k : ℕ) → (m - n) * k ≡ m * k - n * k
-sub-mul m n k = mul-comm (m - n) k ∙ mul-sub k m n ∙ ap (λ (x : ℕ). x - k * n) (mul-comm k m) ∙ ap (λ (x : ℕ). m * k - x) (mul-comm k n)
 
 -- ---- the range
 
@@ -66,7 +64,7 @@ above a c C =
 under : (a c q : ℕ) → 0 < c → a ≤ 32768 * c → IsNearest a c q → IsNearest (12582912 * c - a) c (12582912 - q)
 under a c q C h Q =
     let m = nearest-most16 a c q C h Q in
-    let e : (12582912 - q) * c ≡ 12582912 * c - q * c = sub-mul 12582912 q c in
+    let e : (12582912 - q) * c ≡ 12582912 * c - q * c = minus-times 12582912 q c in
     let g : q * c ≤ 32768 * c = mul-le-mul-right c m in
     record {
       notBelow = omega (arith, Q .notAbove);
@@ -125,10 +123,10 @@ add-minus (fin true n d) a c C h v =
 
     meet : (p q a c : ℕ) → p * c ≡ a * q → (12582912 * q - p * 1) * c ≡ (12582912 * c - a) * (q * 1)
     meet p q a c h =
-        sub-mul (12582912 * q) (p * 1) c
+        minus-times (12582912 * q) (p * 1) c
         ∙ ap (λ (x : ℕ). x - p * 1 * c) (mul-right-comm 12582912 q c)
         ∙ ap (λ (x : ℕ). 12582912 * c * q - x) (ap (λ (x : ℕ). x * c) (mul-one p) ∙ h)
-        ∙ sym (sub-mul (12582912 * c) a q)
+        ∙ sym (minus-times (12582912 * c) a q)
         ∙ sym (ap (λ (x : ℕ). (12582912 * c - a) * x) (mul-one q))
 
 -- ---- its bits

@@ -14,10 +14,11 @@ use lib.Ieee.Bits.{ofBits-toBits}
 use lib.Ieee.Fits.{down-pos}
 use lib.Ieee.Exact.{HasValue}
 use lib.Ieee.Scale.{finite}
+use Rattle.laws.proofs.laws.Arithmetic.{or-le}
 use Rattle.rounding.specs.Nearest.{nearestQuotient, stickyQuotient}
 use Rattle.rounding.proofs.laws.Nearest.{nearest-quotient-same, nearest-by-sticky, nearest-small}
 use Rattle.rounding.proofs.laws.Fields.{field-zero, field-value, field-top}
-use Rattle.rounding.proofs.laws.Narrow.{up-says, zeros-say}
+use Rattle.rounding.proofs.laws.Narrow.{zeros-say}
 use Rattle.rounding.specs.Duration.{nanosFromSecs, InAnHour}
 
 -- ---- from the value d * 2 ^ y / 2 ^ l
@@ -100,7 +101,7 @@ hour-no-nan (fin s m e) H = tt
 
 hour-most : (s : Bool) (m : ℕ) (e : ℤ) → InAnHour (fin s m e) → m * up e ≤ 3600 * down e
 unfolding le ofInt
-hour-most false m e H = omega (arith, up-says (m * up e * 1) (3600 * down e) (H .notAbove))
+hour-most false m e H = omega (arith, or-le (m * up e * 1) (3600 * down e) (H .notAbove))
 hour-most true m e H = omega (arith, zeros-say (0 * down e) (m * up e * 1) (H .notBelow) .1)
 
 -- a value of 4,096 or more

@@ -1,16 +1,17 @@
 -- Laws of f64 to f32: the result fits, what fits is left alone, the order and the sign are kept, and 0..1 stays 0..1.
 use mathlib.Core.Path.{_≡_, refl, sym, ap, _∙_, subst, subst₂}
-use mathlib.Core.Logic.{_⊎_, inl, inr}
+use mathlib.Core.Logic.{inl, inr}
 use mathlib.Core.Bool.{Bool, true, false, not, _&&_, _||_, cond, true≢false, false≢true}
 use Prim.Native.Nat.{ℕ, zero, suc, _+_, _-_, _*_, _^_, _≤_, _<_}
-use native.Mathlib.Nat.{le-of-eq, le-of-lt, eq-or-lt-of-le, eq-zero-or-pos, eq-of-mul-eq-mul-right, lt-of-lt-of-le, le-of-suc-le-suc, lt-of-not-le, lt-irrefl, zero-mul, mul-one, one-mul, mul-assoc, mul-comm, mul-right-comm, lt-of-mul-lt-mul-right, mul-lt-mul-of-pos-right}
+use native.Mathlib.Nat.{eq-or-lt-of-le, eq-zero-or-pos, eq-of-mul-eq-mul-right, lt-of-lt-of-le, le-of-suc-le-suc, lt-of-not-le, lt-irrefl, zero-mul, mul-one, one-mul, mul-assoc, mul-comm, mul-right-comm, lt-of-mul-lt-mul-right, mul-lt-mul-of-pos-right}
 use native.Mathlib.Omega.{arith}
 use lib.IntN.{ℤ, pos, negsuc}
-use lib.Dec.{T, ltb, eqb, ltb→lt, lt→ltb, eqb→eq}
+use lib.Dec.{T, ltb, eqb, lt→ltb, eqb→eq}
 use lib.Pow.{pow-add, pow-pos, pow-lt}
 use lib.Ieee.{Float, nan, inf, fin, Format, binary32, prec, emax, low, up, down, odd, units, round, neg, le, fits, isNan, top}
 use lib.Ieee.Fits.{round-is, round-fits, nan-fits, inf-fits, down-pos, and-i, and-l, and-r, eq→eqb}
 use lib.Ieee.Order.{drop, kept, round-mono}
+use Rattle.laws.proofs.laws.Arithmetic.{or-l, or-r, or-le, or-ge, le-or}
 use Rattle.laws.proofs.laws.Float.{fits-parts}
 use Rattle.laws.proofs.laws.FloatValue.{round-sign, round-zero, round-own}
 use Rattle.laws.proofs.laws.Amount.{InUnit, narrowed-amount}
@@ -94,28 +95,6 @@ narrowed-no-nan (fin s m e) h = signed-no-nan s (narrowed (fin s m e)) (narrowed
 
 -- ---- the order
 
-or-l : (a b : Bool) → T a → T (a || b)
-or-l true b t = tt
-or-l false b t = absurd t
-
-or-r : (a b : Bool) → T b → T (a || b)
-or-r true b t = tt
-or-r false b t = t
-
-either-of : (a b : Bool) → T (a || b) → T a ⊎ T b
-either-of true b t = inl tt
-either-of false b t = inr t
-
--- ±a ≤ ±b in the four cases, as `le` has them
-pub up-says : (a b : ℕ) → T (ltb a b || (eqb a b && true)) → a ≤ b
-up-says a b t = elim (either-of (ltb a b) (eqb a b && true) t) [ inl l ↦ le-of-lt (ltb→lt a b l) | inr e ↦ le-of-eq (eqb→eq a b (and-l (eqb a b) true e)) ]
-
-up-holds : (a b : ℕ) → a ≤ b → T (ltb a b || (eqb a b && true))
-up-holds a b h = elim (eq-or-lt-of-le h) [ inl e ↦ or-r (ltb a b) (eqb a b && true) (and-i (eqb a b) true (eq→eqb e) tt) | inr l ↦ or-l (ltb a b) (eqb a b && true) (lt→ltb a b l) ]
-
-down-says : (a b : ℕ) → T (ltb b a || (eqb a b && true)) → b ≤ a
-down-says a b t = elim (either-of (ltb b a) (eqb a b && true) t) [ inl l ↦ le-of-lt (ltb→lt b a l) | inr e ↦ le-of-eq (sym (eqb→eq a b (and-l (eqb a b) true e))) ]
-
 down-holds : (a b : ℕ) → b ≤ a → T (ltb b a || (eqb a b && true))
 down-holds a b h = elim (eq-or-lt-of-le h) [ inl e ↦ or-r (ltb b a) (eqb a b && true) (and-i (eqb a b) true (eq→eqb (sym e)) tt) | inr l ↦ or-l (ltb b a) (eqb a b && true) (lt→ltb b a l) ]
 
@@ -147,8 +126,8 @@ le-neg (inf false) (fin u n d) t = absurd t
 le-neg (fin s m e) nan t = absurd t
 le-neg (fin s m e) (inf true) t = absurd t
 le-neg (fin s m e) (inf false) t = tt
-le-neg (fin false m e) (fin false n d) t = down-holds (n * up d * down e) (m * up e * down d) (up-says (m * up e * down d) (n * up d * down e) t)
-le-neg (fin true m e) (fin true n d) t = up-holds (n * up d * down e) (m * up e * down d) (down-says (m * up e * down d) (n * up d * down e) t)
+le-neg (fin false m e) (fin false n d) t = down-holds (n * up d * down e) (m * up e * down d) (or-le (m * up e * down d) (n * up d * down e) t)
+le-neg (fin true m e) (fin true n d) t = le-or (n * up d * down e) (m * up e * down d) (or-ge (m * up e * down d) (n * up d * down e) t)
 le-neg (fin true m e) (fin false n d) t = across-holds (n * up d * down e) (m * up e * down d)
 le-neg (fin false m e) (fin true n d) t =
     let z = zeros-say (m * up e * down d) (n * up d * down e) t in
@@ -195,11 +174,11 @@ narrowed-mono (fin s m e) nan t = absurd t
 narrowed-mono (fin s m e) (inf true) t = absurd t
 narrowed-mono (fin s m e) (inf false) t = le-inf s (round binary32 s (m * up e) (down e)) (round-signed binary32 s (m * up e) (down e)) .0
 narrowed-mono (fin false m e) (fin false n d) t =
-    round-mono binary32 (m * up e) (down e) (n * up d) (down d) (down-pos e) (down-pos d) (up-says (m * up e * down d) (n * up d * down e) t)
+    round-mono binary32 (m * up e) (down e) (n * up d) (down d) (down-pos e) (down-pos d) (or-le (m * up e * down d) (n * up d * down e) t)
 narrowed-mono (fin true m e) (fin true n d) t =
     subst₂ (λ (x y : Float). T (le x y)) (sym (round-sign binary32 (m * up e) (down e))) (sym (round-sign binary32 (n * up d) (down d)))
     (le-neg (round binary32 false (n * up d) (down d)) (round binary32 false (m * up e) (down e))
-    (round-mono binary32 (n * up d) (down d) (m * up e) (down e) (down-pos d) (down-pos e) (down-says (m * up e * down d) (n * up d * down e) t)))
+    (round-mono binary32 (n * up d) (down d) (m * up e) (down e) (down-pos d) (down-pos e) (or-ge (m * up e * down d) (n * up d * down e) t)))
 narrowed-mono (fin true m e) (fin false n d) t =
     le-signs (round binary32 true (m * up e) (down e)) (round binary32 false (n * up d) (down d)) (round-signed binary32 true (m * up e) (down e)) (round-signed binary32 false (n * up d) (down d))
 narrowed-mono (fin false m e) (fin true n d) t =

@@ -4,12 +4,13 @@ use mathlib.Core.Path.{_≡_, sym, ap}
 use mathlib.Core.Logic.{_⊎_, inl, inr}
 use mathlib.Core.Bool.{true, false, not}
 use Prim.Native.Nat.{ℕ, _+_, _-_, _*_, _/_, _%_, _^_, _≤_, _<_}
-use native.Mathlib.Nat.{le-trans, le-of-eq, lt-of-lt-of-le, lt-of-le-of-lt, lt-of-not-le, not-le-of-lt, zero-add, le-div-iff-mul-le, div-lt-iff-lt-mul}
+use native.Mathlib.Nat.{le-trans, le-of-eq, lt-of-lt-of-le, lt-of-le-of-lt, not-le-of-lt, zero-add, le-div-iff-mul-le, div-lt-iff-lt-mul}
 use native.Mathlib.Omega.{arith}
 use lib.Dec.{T}
 use lib.Pow.{pow-add, pow-pos, pow-mono}
 use lib.Ieee.{Float, nan, inf, fin, binary32, binary64, up, down, size, fits, isNan, toBits}
 use lib.Ieee.Digits.{size-lt, size-le, size-reaches}
+use Rattle.rounding.proofs.laws.Rounding.{size-gt}
 use Rattle.laws.specs.FloatOrder.{Number, plus, minus, magnitude}
 use Rattle.laws.proofs.laws.FloatOrder.{one-sided}
 use Rattle.laws.specs.FloatRound.{Between}
@@ -20,15 +21,12 @@ use Rattle.rounding.proofs.laws.NarrowBits.{narrowed-at-once, narrowed-
 
 -- ---- which numbers are normal
 
-size-above : (n j : ℕ) → 2 ^ j ≤ n → j < size n
-size-above n j h = lt-of-not-le (λ (g : size n ≤ j). not-le-of-lt (lt-of-lt-of-le (size-lt n) (pow-mono g)) h)
-
 -- the bits of n units: the field counts the digits that are cut, and 53 are left
 abbrev cut : ℕ → ℕ
 cut n = size n - 53
 
 bits-least : (n : ℕ) → 2 ^ 948 ≤ n → 897 * 2 ^ 52 ≤ cut n * 2 ^ 52 + n / 2 ^ cut n
-bits-least n h = go (size n) (size-above n 948 h) (size-reaches n (52 + cut n))
+bits-least n h = go (size n) (size-gt n 948 h) (size-reaches n (52 + cut n))
   where
     go : (z : ℕ) → 948 < z → (52 + (z - 53) < z → 2 ^ (52 + (z - 53)) ≤ n) → 897 * 2 ^ 52 ≤ (z - 53) * 2 ^ 52 + n / 2 ^ (z - 53)
     go z l r =

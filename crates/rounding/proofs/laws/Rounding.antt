@@ -24,7 +24,7 @@ use Rattle.rounding.proofs.laws.Nearest.{IsNearest, nearest-quotient-ne
 
 -- ---- how many digits are dropped
 
-size-gt : (w j : ℕ) → 2 ^ j ≤ w → j < size w
+pub size-gt : (w j : ℕ) → 2 ^ j ≤ w → j < size w
 size-gt w j h = lt-of-not-le (λ (g : size w ≤ j). not-le-of-lt (lt-of-lt-of-le (size-lt w) (pow-mono g)) h)
 
 -- of a number below 2 ^ (p + k) k digits, where it has as many or where k is 0

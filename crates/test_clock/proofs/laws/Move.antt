@@ -1,11 +1,11 @@
 -- What the tests of `can_move` show. Assumes nothing.
 use mathlib.Core.Path.{_≡_, refl, subst}
-use mathlib.Core.Bool.{Bool, true, false, not, _&&_, true≢false}
+use mathlib.Core.Bool.{Bool, true, false, not, true≢false}
 use Prim.Native.Nat.{_≤_}
 use lib.Dec.{T}
 use lib.Ieee.{Float, binary64, fits, le, lt}
 use Rattle.laws.specs.Float.{whole}
-use Rattle.laws.proofs.laws.Choice.{true-T}
+use Rattle.laws.proofs.laws.Choice.{true-T, both-T}
 use Rattle.clock.specs.declared.clock.Clock.{Clock}
 use Rattle.clock.specs.declared.clock_speed.ClockSpeed.{ClockSpeed}
 use Rattle.clock.specs.declared.clock_time.ClockTime.{ClockTime}
@@ -21,13 +21,9 @@ pub passed : (b : Bool) → not b ≡ false → b ≡ true
 passed true h = refl
 passed false h = absurd (true≢false h)
 
-both : (a b : Bool) → T a → T b → T (a && b)
-both true b p q = q
-both false b p q = p
-
 allowed : (s : ClockSpeed) → Within (asTicksPerSecond s) (whole 1000) → T (allowedSpeed s)
 unfolding allowedSpeed
-allowed s w = both (le (whole 0) (asTicksPerSecond s)) (le (asTicksPerSecond s) (whole 1000)) (w .1) (w .2)
+allowed s w = both-T (le (whole 0) (asTicksPerSecond s)) (le (asTicksPerSecond s) (whole 1000)) (w .1) (w .2)
 
 module _ (c : Clock) (dt : Float) (step : Within dt (whole 1)) where
   moves : Within (asTicksPerSecond (c .speed)) (whole 1000) → Within (fractionOf (c .state)) (whole 1) → ticksOf (c .state) ≤ lastTick → lt (fractionOf (c .state)) (whole 1) ≡ true

@@ -3,14 +3,15 @@ use mathlib.Core.Path.{_≡_, refl, sym, ap, _∙_, subst}
 use mathlib.Core.Logic.{inl, inr}
 use mathlib.Core.Bool.{Bool, true, false, cond, _&&_, _||_, true≢false}
 use Prim.Native.Nat.{ℕ, zero, suc, _+_, _-_, _*_, _/_, _%_, _^_, _≤_, _<_}
-use native.Mathlib.Nat.{eq-zero-or-pos, mul-pos, suc-mul, le-add-left, le-add-right, le-antisymm}
+use native.Mathlib.Nat.{eq-zero-or-pos, mul-pos, suc-mul, le-add-left, le-add-right}
 use native.Mathlib.Omega.{arith}
 use lib.Dec.{T, ltb, eqb, lit<}
-use borrow.Author.Tests.{ltb-false, eqb-false}
+use borrow.Author.Tests.{ltb-false}
 use lib.Pow.{pow-pos}
 use lib.Ieee.{Float, nan, inf, fin, binary64, low, up, down, round, add, sub, mul, div, lt, le, ofInt}
 use lib.Ieee.Positive.{positive}
 use lib.Ieee.Order.{round-mono}
+use Rattle.laws.proofs.laws.Arithmetic.{le-or}
 use Rattle.laws.proofs.laws.Choice.{true-T, false-T}
 use Rattle.laws.specs.Float.{posZero, half, one, two}
 use Rattle.laws.proofs.laws.FloatLiteral.{at-posZero}
@@ -146,15 +147,6 @@ pub duration-zero : secsFromMillis 0 ≡ posZero
 unfolding secsFromMillis ofInt add div
 duration-zero = refl
 
--- a ≤ b as `le` asks it
-holds : (a b : ℕ) → a ≤ b → T (ltb a b || (eqb a b && true))
-holds a b h = go (ltb a b) refl (eqb a b) refl
-  where
-    go : (p : Bool) → ltb a b ≡ p → (q : Bool) → eqb a b ≡ q → T (p || (q && true))
-    go true e q f = tt
-    go false e true f = tt
-    go false e false f = absurd (eqb-false a b f (le-antisymm h (ltb-false a b e)))
-
 fails : (a b : ℕ) → (ltb a b || (eqb a b && true)) ≡ false → b ≤ a
 fails a b = go (ltb a b) refl
   where
@@ -167,7 +159,7 @@ unfolding le
 unsigned-above nan h = absurd h
 unsigned-above (inf false) h = tt
 unsigned-above (inf true) h = absurd h
-unsigned-above (fin false m e) h = holds (0 * down e) (m * up e * 1) (omega arith)
+unsigned-above (fin false m e) h = le-or (0 * down e) (m * up e * 1) (omega arith)
 unsigned-above (fin true m e) h = absurd h
 
 -- of two such values one is at most the other
@@ -184,7 +176,7 @@ unsigned-total (fin false m i) nan h k e = absurd k
 unsigned-total (fin false m i) (inf true) h k e = absurd k
 unsigned-total (fin false m i) (inf false) h k e = absurd (true≢false e)
 unsigned-total (fin false m i) (fin true n j) h k e = absurd k
-unsigned-total (fin false m i) (fin false n j) h k e = holds (n * up j * down i) (m * up i * down j) (fails (m * up i * down j) (n * up j * down i) e)
+unsigned-total (fin false m i) (fin false n j) h k e = le-or (n * up j * down i) (m * up i * down j) (fails (m * up i * down j) (n * up j * down i) e)
 
 pub within-start : (millis : ℕ) → TimeWithin posZero millis
 within-start millis = record { sign = tt; most = unsigned-above (secsFromMillis millis) (duration-unsigned millis) }

@@ -24,7 +24,7 @@ use Rattle.wave_sound.specs.declared.sound.Kind.the-variants.{Known, Oth
 use Rattle.wave_sound.specs.Sound.{riff, wave, formatChunk, dataChunk, channelsOk, kindOf, soundOf, hasChunks, soundKind, soundAt, soundAmong, soundIn}
 
 -- both of two tests
-both : (p q : Bool) → p && q ≡ true → (p ≡ true) × (q ≡ true)
+pub both : (p q : Bool) → p && q ≡ true → (p ≡ true) × (q ≡ true)
 both true true e = (refl, refl)
 both true false e = absurd (true≢false (sym e))
 both false q e = absurd (true≢false (sym e))

@@ -1,16 +1,16 @@
 -- What the writer answers, in each case. Assumes nothing.
 use mathlib.Core.Path.{_≡_, refl, sym, ap, ap₂, _∙_}
-use mathlib.Core.Bool.{Bool, true, false, cond, _&&_, true≢false}
+use mathlib.Core.Bool.{Bool, true, false, cond, _&&_}
 use mathlib.Core.List.{List, _++_, append-nil}
-use Prim.Native.Nat.{ℕ, zero, suc, _+_, _*_, _/_, _%_, _≤_, _<_}
+use Prim.Native.Nat.{ℕ, _+_, _*_, _/_, _%_, _≤_, _<_}
 use native.Mathlib.Nat.{mul-comm, mul-le-mul-right}
-use native.Mathlib.Decide.{decLe}
 use native.Mathlib.Omega.{arith}
 use lib.Dec.{eqb, leb}
 use lib.IntN.{pos}
 use lib.ListN.{length, getD, length-append, drop-of-length-le}
 use lib.Ieee.{Float, nan, binary32, le, neg, ofInt}
 use borrow.Author.Tests.{eq-eqb, ne-eqb, eqb-true, le-leb, lt-leb, leb-true}
+use Rattle.scene_tables.proofs.laws.Every.{every-at}
 use Rattle.laws.proofs.laws.Choice.{cond-true, cond-false, true-T}
 use Rattle.laws.specs.Pieces.{putAt}
 use Rattle.laws.proofs.laws.Pieces.{put-turn}
@@ -18,22 +18,15 @@ use Rattle.byte_order.specs.declared.bytes.ByteOrder.the-variants.{Little}
 use Rattle.pcm.specs.declared.sample.Encoding.{Encoding}
 use Rattle.pcm.specs.declared.sample.Encoding.the-variants.{Pcm16, Float32}
 use Rattle.pcm.specs.Sample.{InRange, width}
-use Rattle.scene_tables.specs.Bytes.{every}
 use Rattle.scene_questions.specs.Questions.{sampleOk, samplesOk}
 use Rattle.sound_data.specs.Data.{dataOf, AllInRange}
 use Rattle.sound_data.proofs.laws.Back.{length-data}
 use Rattle.wave_sound.specs.declared.sound.Kind.{Kind}
 use Rattle.wave_sound.specs.declared.sound.Kind.the-variants.{Known, Other}
 use Rattle.wave_sound.specs.Sound.{channelsOk}
-use Rattle.wave_sound.proofs.laws.Sound.{channels-are, width-pos}
+use Rattle.wave_sound.proofs.laws.Sound.{channels-are, width-pos, both}
 use Rattle.wave_writer.specs.Write.{headOf, dataLength, fileOf, writing, rateOk, lengthOk, Writable, writeKnown, kindOfBits, writeKind, writeOf, lengthKnown, lengthFor}
 use Rattle.wave_writer.proofs.laws.Head.{length-head}
-
--- both of two tests
-both : (p q : Bool) → p && q ≡ true → (p ≡ true) × (q ≡ true)
-both true true e = (refl, refl)
-both true false e = absurd (true≢false (sym e))
-both false q e = absurd (true≢false (sym e))
 
 -- ---- the rate
 
@@ -141,16 +134,6 @@ module _ (samples channels bits : ℕ) where
   length-other e = sym (ap (λ (k : Kind). lengthKnown k samples channels) e)
 
 -- ---- the samples
-
-every-at : (n : ℕ) (f : ℕ → Bool) (i : ℕ) → i < n → every n f ≡ true → f i ≡ true
-unfolding every
-every-at zero f i h e = absurd (omega arith)
-every-at (suc n) f i h e =
-    let p = both (every n f) (f n) e in
-    elim (decLe n i) [
-      | yes k ↦ ap f (omega arith) ∙ p .1
-      | no k ↦ every-at n f i (omega arith) (p .0)
-    ]
 
 sample-in-range : (x : Float) → sampleOk x ≡ true → InRange x
 unfolding sampleOk

@@ -7,6 +7,7 @@ use native.Mathlib.Omega.{arith}
 use mathlib.Core.List.{List}
 use lib.ListN.{getD, set}
 use lib.Ieee.{Float}
+use Rattle.laws.proofs.laws.Turns.{falls}
 use Rattle.laws.specs.Loop.{changed}
 use Rattle.laws.proofs.laws.Loop.{changed-zero, changed-here, changed-end, changed-turn-any}
 use Rattle.clock.specs.declared.clock.Clock.{Clock}
@@ -33,9 +34,6 @@ record Inside (i : ℕ) : Type 0 where
 
 inside : (i count : ℕ) → i < count → count ≤ 8 → Inside i
 inside i count h k = omega arith
-
-falls : (i count : ℕ) → i < count → count - (i + 1) < count - i
-falls i count h = omega arith
 
 loop-holds : tie.Need-loop-holds Inv-loop μ-loop
 loop-holds c = (zero-le, c .before .pre .clocks .few, sym (changed-zero _ _))
