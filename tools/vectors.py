@@ -62,9 +62,9 @@ class Format:
         return max(size - self.digits, self.lowest)
 
     def round(self, x):
-        """The value nearest to x >= 0, ties to even."""
-        if x == 0:
-            return x
+        """The value nearest to x, ties to even."""
+        if x <= 0:
+            return -self.round(-x) if x else x
         unit = Fraction(2) ** self.unit(x)
         n = x / unit
         whole, rest = divmod(n.numerator, n.denominator)
@@ -103,6 +103,7 @@ def entry(k):
 
 
 TABLE = {k: entry(k) for k in range(-960, 385)}
+LIMIT = 23  # decibels
 
 
 def amplitude(bits):
@@ -112,19 +113,20 @@ def amplitude(bits):
     if bits == 0xFF800000:
         return 0, 0
     n = F32.value(bits)
-    if n > 24:
+    if n > LIMIT:
         return 11, 0
     if n == 0:
         return 0, 0x3F800000
     if n <= -60:
         return 0, 0
     k = (16 * n).__floor__()
-    rest = F64.round(16 * n - k)
-    line = Fraction(TABLE[k])
+    value, rest = Fraction(TABLE[k]), F64.round(16 * n - k)
     if rest:
-        slope = F64.round(Fraction(TABLE[k + 1] - TABLE[k]))
-        line = F64.round(line + F64.round(slope * rest))
-    return 0, F32.bits(F32.round(F64.round(line / 2 ** 40)))
+        line = F64.round(value + F64.round((TABLE[k + 1] - TABLE[k]) * rest))
+        second = TABLE[k + 2] - 2 * TABLE[k + 1] + TABLE[k]
+        factor = F64.round(F64.round(rest * F64.round(rest - 1)) / 2)
+        value = F64.round(line + F64.round(factor * second))
+    return 0, F32.bits(F32.round(F64.round(value / 2 ** 40)))
 
 
 # ---- inputs
@@ -301,18 +303,18 @@ def amplitude_inputs():
 
     entries = [Fraction(n, 16) - 60 for n in range(1345)]
     inputs = [b for x in entries if x for b in next_to(of(x))]
-    yield "ours: every entry of the table, n / 16 - 60, with the f32 on either side; -60 and 24 among them", inputs
+    yield "ours: every entry of the table, n / 16 - 60, with the f32 on either side; -60 and 23 among them", inputs
     yield "ours: NaN, infinities and zeros", [0, 0x80000000, 0x7F800000, 0xFF800000] + both_signs([0x7F800001, 0x7FBFFFFF, 0x7FC00000, 0x7FC01234, 0x7FFFFFFF], F32.sign)
     tiny = [1, 2, 3, 0x7FFFFF, 0x800000, 0x800001]
     yield "ours: the smallest subnormals, the largest and the smallest normal numbers", both_signs(tiny, F32.sign)
     powers = [of(s * Fraction(2) ** -e) for e in range(1, 130, 3) for s in (1, -1)]
     yield "ours: small numbers; below 0 the rest is near 1, and from some number on rounds to it", powers + [b for e in range(20, 60) for b in next_to(of(-Fraction(2) ** -e))]
-    outside = [of(Fraction(x)) for x in (-61, -90, -96, -1000, 25, 30, 96, 1000)] + [0x7F7FFFFF, 0xFF7FFFFF]
-    yield "ours: below -60 and above 24", outside
+    outside = [of(Fraction(x)) for x in (-61, -90, -96, -1000, 24, 25, 30, 96, 1000)] + [0x7F7FFFFF, 0xFF7FFFFF]
+    yield "ours: below -60 and above 23", outside
     yield "ours: between the entries", [of(x + Fraction(1, 32)) for x in entries[:-1]] + [of(x + Fraction(n, 1000)) for n, x in enumerate(entries[:-1]) if n % 3 == 1 and n < 60]
     yield "ours: volumes of a scene, in thousandths", [of(Fraction(v, 1000)) for v in range(-96000, 18001, 113)]
     choose = random.Random(1)
-    yield "ours: chosen at random", [choose.randrange(0x41C00001) for _ in range(300)] + [F32.sign + choose.randrange(0x42700001) for _ in range(300)]
+    yield "ours: chosen at random", [choose.randrange(0x41B80001) for _ in range(300)] + [F32.sign + choose.randrange(0x42700001) for _ in range(300)]
 
 
 def nanosecond_inputs():

@@ -1,6 +1,6 @@
 //! Holds `room_desk_amplitude`, and the form of it that the library uses inside, to the gain table's
-//! rule at every f32 from -60 to 24, and measures what a call of the inside form costs.
-//! docs/AMPLITUDE.md says how to build and run it.
+//! rule at every f32 from -60 to the limit, says how far the amplitudes lie from 10^(n / 20), and
+//! measures what a call of the inside form costs. docs/AMPLITUDE.md says how to build and run it.
 //!
 //!     amplitude [--threads N] [--part K]   compare, then measure
 //!     amplitude --cost                     measure only
@@ -8,7 +8,7 @@
 //! With `--part K` only every K-th number is compared.
 mod rule;
 
-use rule::{Answer, Rule};
+use rule::{Answer, Rule, LIMIT};
 use std::hint::black_box;
 use std::time::Instant;
 
@@ -21,6 +21,9 @@ extern "C" {
 extern "C" {
     fn room_desk_amplitudes(decibels: *const f32, count: usize, amplitudes: *mut f32, places: usize);
 }
+
+/// From here to the limit the amplitude must not fall.
+const RISING_FROM: f32 = 0.0001;
 
 /// What a place holds before a call: numbers that are no amplitude.
 fn before(bits: u32) -> u32 {
@@ -50,63 +53,152 @@ fn expected(rule: &Rule, bits: u32) -> (u32, u32) {
     }
 }
 
-/// How many numbers were compared, and how many were wrong in either form.
-fn compare(rule: &Rule, mut numbers: impl Iterator<Item = u32>) -> (u64, u64) {
-    let (mut compared, mut wrong) = (0, 0);
-    loop {
-        let chunk: Vec<u32> = numbers.by_ref().take(4096).collect();
-        if chunk.is_empty() {
-            return (compared, wrong);
+/// What was seen of the numbers compared.
+#[derive(Default)]
+struct Seen {
+    compared: u64,
+    /// in either form
+    wrong: u64,
+    /// the largest relative distance from 10^(n / 20), and where: of the amplitude, and of the
+    /// straight line between two entries
+    curve: (f64, u32),
+    line: (f64, u32),
+    /// where the amplitude falls although the number rises: from `RISING_FROM` on, and elsewhere
+    falls_above: Falls,
+    falls: Falls,
+}
+
+#[derive(Default)]
+struct Falls {
+    count: u64,
+    first: Vec<u32>,
+}
+
+impl Falls {
+    fn add(&mut self, bits: u32) {
+        self.count += 1;
+        if self.first.len() < 10 {
+            self.first.push(bits);
         }
-        for (&bits, inside) in chunk.iter().zip(inside(&chunk)) {
-            let (given, right) = (outside(bits), expected(rule, bits));
-            if given != right || inside.to_bits() != right.1 {
-                wrong += 1;
-                if wrong <= 10 {
-                    println!("WRONG at {bits:08x} ({}): {given:x?}, inside {:x}; the rule says {right:x?}", f32::from_bits(bits), inside.to_bits());
-                }
-            }
-        }
-        compared += chunk.len() as u64;
-        if compared % (1 << 27) == 0 {
-            eprintln!("{compared} compared, {wrong} wrong");
+    }
+
+    fn with(mut self, other: Falls) -> Falls {
+        self.first.extend(other.first);
+        self.first.truncate(10);
+        Falls { count: self.count + other.count, first: self.first }
+    }
+}
+
+impl Seen {
+    fn with(self, other: Seen) -> Seen {
+        Seen {
+            compared: self.compared + other.compared,
+            wrong: self.wrong + other.wrong,
+            curve: farther(self.curve, other.curve),
+            line: farther(self.line, other.line),
+            falls: self.falls.with(other.falls),
+            falls_above: self.falls_above.with(other.falls_above),
         }
     }
 }
 
-/// Both zeros and infinities, NaNs, and the numbers around -60 and 24.
+fn farther(a: (f64, u32), b: (f64, u32)) -> (f64, u32) {
+    if b.0 > a.0 { b } else { a }
+}
+
+/// How far an amplitude lies from 10^(n / 20), as a part of it.
+fn distance(decibels: f32, amplitude: f32) -> f64 {
+    (f64::from(amplitude) / 10f64.powf(f64::from(decibels) / 20.0) - 1.0).abs()
+}
+
+/// The largest distances and the falls. The bits rise from one number to the next, so that a number
+/// below zero falls.
+fn look(rule: &Rule, seen: &mut Seen, bits: u32, last: Option<f32>, amplitude: f32) {
+    let n = f32::from_bits(bits);
+    if !(n > -60.0 && n <= f32::from(LIMIT)) {
+        return;
+    }
+    seen.curve = farther(seen.curve, (distance(n, amplitude), bits));
+    seen.line = farther(seen.line, (distance(n, rule.line(n)), bits));
+    let Some(last) = last else { return };
+    let falls = if n < 0.0 { amplitude > last } else { amplitude < last };
+    if falls && n >= RISING_FROM {
+        seen.falls_above.add(bits);
+    } else if falls {
+        seen.falls.add(bits);
+    }
+}
+
+fn compare(rule: &Rule, mut numbers: impl Iterator<Item = u32>) -> Seen {
+    let mut seen = Seen::default();
+    let mut last = None;
+    loop {
+        let chunk: Vec<u32> = numbers.by_ref().take(4096).collect();
+        if chunk.is_empty() {
+            return seen;
+        }
+        for (&bits, inside) in chunk.iter().zip(inside(&chunk)) {
+            let (given, right) = (outside(bits), expected(rule, bits));
+            if given != right || inside.to_bits() != right.1 {
+                seen.wrong += 1;
+                if seen.wrong <= 10 {
+                    println!("WRONG at {bits:08x} ({}): {given:x?}, inside {:x}; the rule says {right:x?}", f32::from_bits(bits), inside.to_bits());
+                }
+            }
+            look(rule, &mut seen, bits, last, inside);
+            last = Some(inside);
+        }
+        seen.compared += chunk.len() as u64;
+        if seen.compared % (1 << 27) == 0 {
+            eprintln!("{} compared, {} wrong", seen.compared, seen.wrong);
+        }
+    }
+}
+
+/// Both zeros and infinities, NaNs, and the numbers around -60, the limit and 24.
 fn boundaries() -> Vec<u32> {
     let mut all = vec![0, 1, 2, 0x7f_ffff, 0x80_0000, 0x7f7f_ffff, 0x7f80_0000];
     all.extend([0x7f80_0001, 0x7fa0_0000, 0x7fbf_ffff, 0x7fc0_0000, 0x7fc0_0001, 0x7fc0_1234, 0x7fff_ffff]);
-    all.extend((0x41c0_0000 - 16)..(0x41c0_0000 + 16)); // 24.0
-    all.extend((0x4270_0000 - 16)..(0x4270_0000 + 16)); // 60.0
+    for around in [f32::from(LIMIT), 24.0, 60.0] {
+        all.extend((around.to_bits() - 16)..(around.to_bits() + 16));
+    }
     all.extend([25f32, 61.0, 96.0, 1000.0].map(f32::to_bits));
     let negative: Vec<u32> = all.iter().map(|bits| bits | 1 << 31).collect();
     all.extend(negative);
     all
 }
 
-/// 0.0 to 24.0 and -0.0 to -60.0, cut into pieces for the threads.
-fn compare_all(rule: &Rule, threads: u32, part: usize) -> (u64, u64) {
+/// 0.0 to the limit and -0.0 to -60.0, cut into pieces for the threads. A piece begins with the last
+/// number of the one before, so that no step from one number to the next is left out.
+fn compare_all(rule: &Rule, threads: u32, part: usize) -> Seen {
     let mut pieces = Vec::new();
-    for (first, last) in [(0u32, 24f32.to_bits()), (1 << 31, (-60f32).to_bits())] {
+    for (first, last) in [(0u32, f32::from(LIMIT).to_bits()), (1 << 31, (-60f32).to_bits())] {
         let length = (last - first) / threads + 1;
         for t in 0..threads {
             let from = first + t * length;
-            pieces.push((t, from, last.min(from + (length - 1))));
+            pieces.push((t, from - u32::from(t > 0), last.min(from + (length - 1))));
         }
     }
     std::thread::scope(|scope| {
         let work: Vec<_> = (0..threads)
             .map(|t| {
                 let own: Vec<_> = pieces.iter().filter(|p| p.0 == t).copied().collect();
-                scope.spawn(move || {
-                    own.iter().map(|&(_, from, to)| compare(rule, (from..=to).step_by(part))).fold((0, 0), |a, b| (a.0 + b.0, a.1 + b.1))
-                })
+                scope.spawn(move || own.iter().map(|&(_, from, to)| compare(rule, (from..=to).step_by(part))).fold(Seen::default(), Seen::with))
             })
             .collect();
-        work.into_iter().map(|w| w.join().unwrap()).fold((0, 0), |a, b| (a.0 + b.0, a.1 + b.1))
+        work.into_iter().map(|w| w.join().unwrap()).fold(Seen::default(), Seen::with)
     })
+}
+
+fn print_falls(range: &str, falls: &Falls) {
+    println!("falls {range}: {}", falls.count);
+    for &bits in &falls.first {
+        println!("    at {bits:08x} ({})", f32::from_bits(bits));
+    }
+}
+
+fn print_distance(of: &str, (distance, bits): (f64, u32)) {
+    println!("largest distance of {of} from 10^(n / 20): {distance:.3e} of it, at {bits:08x} ({})", f32::from_bits(bits));
 }
 
 fn median(mut times: Vec<f64>) -> f64 {
@@ -163,13 +255,16 @@ fn main() {
         let start = Instant::now();
         let rule = Rule::new();
         println!("table made in {:.1} s", start.elapsed().as_secs_f64());
-        let boundary = boundaries();
-        let (compared, wrong_there) = compare(&rule, boundary.into_iter());
-        println!("boundaries: {compared} compared, {wrong_there} wrong");
+        let boundary = compare(&rule, boundaries().into_iter());
+        println!("boundaries: {} compared, {} wrong", boundary.compared, boundary.wrong);
         let start = Instant::now();
-        let (compared, wrong_between) = compare_all(&rule, threads, part as usize);
-        println!("-60 to 24: {compared} compared, {wrong_between} wrong, in {:.0} s on {threads} thread(s)", start.elapsed().as_secs_f64());
-        wrong = wrong_there + wrong_between;
+        let all = compare_all(&rule, threads, part as usize);
+        println!("-60 to {LIMIT}: {} compared, {} wrong, in {:.0} s on {threads} thread(s)", all.compared, all.wrong, start.elapsed().as_secs_f64());
+        print_distance("the straight line", all.line);
+        print_distance("the amplitude", all.curve);
+        print_falls(&format!("from {RISING_FROM} to {LIMIT}"), &all.falls_above);
+        print_falls("elsewhere", &all.falls);
+        wrong = boundary.wrong + all.wrong;
     }
     cost();
     std::process::exit(if wrong == 0 { 0 } else { 1 });

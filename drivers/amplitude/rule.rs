@@ -1,7 +1,10 @@
-//! The amplitude by the gain table's rule, with whole numbers alone. Nothing here is taken from the library: the
-//! table is made at the start by its rule, and every rounding is spelled out.
+//! The amplitude by the gain table's rule, with whole numbers alone. Nothing here is taken from the
+//! library: the table is made at the start by its own rule, and every rounding is spelled out.
 
 use std::cmp::Ordering;
+
+/// The largest number of decibels that has an amplitude.
+pub const LIMIT: u8 = 23;
 
 /// What is answered to an f32, in bits: the amplitude's bits, or that it is refused with 11.
 #[derive(Clone, Copy, PartialEq, Eq, Debug)]
@@ -64,17 +67,26 @@ impl Rule {
         if digits == 0 {
             return Answer::Amplitude(0x3f80_0000);
         }
-        if !negative && compare(digits, exponent, 24).is_gt() {
+        if !negative && compare(digits, exponent, LIMIT.into()).is_gt() {
             return Answer::Refused;
         }
         if negative && compare(digits, exponent, 60).is_ge() {
             return Answer::Amplitude(0);
         }
-        Answer::Amplitude(self.line(negative, digits, exponent + 4))
+        Answer::Amplitude(self.curve(negative, digits, exponent + 4))
+    }
+
+    /// The straight line between two entries, without its correction, at a number above -60 and at
+    /// most the limit: only to say how far it lies off, so in plain f64.
+    pub fn line(&self, n: f32) -> f32 {
+        let steps = f64::from(n) * 16.0;
+        let this = (steps.floor() + 960.0) as usize;
+        let (low, high) = (self.table[this] as f64, self.table[this + 1] as f64);
+        ((low + (high - low) * (steps - steps.floor())) / (1u64 << 40) as f64) as f32
     }
 
     /// From 16 times the number, ±digits * 2^exponent.
-    fn line(&self, negative: bool, digits: u64, exponent: i32) -> u32 {
+    fn curve(&self, negative: bool, digits: u64, exponent: i32) -> u32 {
         // the whole part below, and the rest as a number of 2^-places
         let places = (-exponent).max(0) as u32;
         let whole = if exponent >= 0 { digits << exponent } else if places < 64 { digits >> places } else { 0 };
@@ -85,10 +97,11 @@ impl Rule {
             return round_to_f32(Number { digits: this, exponent: -40 });
         }
         let rest = if negative { one_less(over, places) } else { round_to_f64(u128::from(over), -(places as i32)) };
-        let next = self.table[(k + 961) as usize];
+        let (next, after) = (self.table[(k + 961) as usize], self.table[(k + 962) as usize]);
         let rise = round_to_f64(u128::from(next - this) * u128::from(rest.digits), rest.exponent);
-        let sum = plus(this, rise);
-        round_to_f32(Number { digits: sum.digits, exponent: sum.exponent - 40 })
+        let line = plus(this, rise);
+        let value = minus(line, correction(rest, after - next - (next - this)));
+        round_to_f32(Number { digits: value.digits, exponent: value.exponent - 40 })
     }
 }
 
@@ -109,6 +122,35 @@ fn one_less(over: u64, places: u32) -> Number {
         return Number { digits: 1, exponent: 0 };
     }
     round_to_f64((1 << places) - u128::from(over), -(places as i32))
+}
+
+/// rest (1 - rest) / 2 times a second difference, each step rounded to f64: what is taken off the line.
+fn correction(rest: Number, second: u64) -> Number {
+    let product = times_f64(rest, one_less_rest(rest));
+    round_to_f64(u128::from(product.digits) * u128::from(second), product.exponent - 1)
+}
+
+/// 1 - rest rounded to f64, for a rest above 0 and at most 1.
+fn one_less_rest(rest: Number) -> Number {
+    if rest.exponent < -120 {
+        // rest is below 2^-67, and half a unit below 1 is 2^-54
+        return Number { digits: 1, exponent: 0 };
+    }
+    round_to_f64((1 << -rest.exponent) - u128::from(rest.digits), rest.exponent)
+}
+
+fn times_f64(a: Number, b: Number) -> Number {
+    round_to_f64(u128::from(a.digits) * u128::from(b.digits), a.exponent + b.exponent)
+}
+
+/// a - b rounded to f64, for an a from 2^29 to 2^44 and a smaller b.
+fn minus(a: Number, b: Number) -> Number {
+    if b.exponent < -80 {
+        // b is below 2^-27, and half a unit of what is below a is 2^-25 or more
+        return a;
+    }
+    let low = a.exponent.min(b.exponent);
+    round_to_f64((u128::from(a.digits) << (a.exponent - low)) - (u128::from(b.digits) << (b.exponent - low)), low)
 }
 
 /// A whole number of 2^30 or more and a number below 2^53 added, rounded to f64.

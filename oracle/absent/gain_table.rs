@@ -8,7 +8,9 @@ const ENTRIES: [u64; 1345] = include!("gain_table_entries.in");
 const FIRST: f64 = -960.0;
 const UNIT: f64 = (1u64 << 40) as f64;
 
-/// The amplitude of a number of decibels above -60 and at most 24.
+/// The amplitude of a number of decibels above -60 and at most 23. Inlined, so that kira can leave it
+/// out of a loop as it can `powf`.
+#[inline]
 pub(crate) fn amplitude(decibels: f32) -> f32 {
 	// Sixteen times an f32 and its whole part are exact in f64; the rest is rounded.
 	let position = f64::from(decibels) * 16.0;
@@ -17,11 +19,16 @@ pub(crate) fn amplitude(decibels: f32) -> f32 {
 	(interpolated((whole - FIRST) as usize, rest) / UNIT) as f32
 }
 
+#[inline]
 fn interpolated(n: usize, rest: f64) -> f64 {
 	let this = ENTRIES[n] as f64;
-	// The last entry has no next one.
 	if rest == 0.0 {
 		return this;
 	}
-	this + (ENTRIES[n + 1] as f64 - this) * rest
+	let next = ENTRIES[n + 1] as f64;
+	let after = ENTRIES[n + 2] as f64;
+	let line = this + (next - this) * rest;
+	// Exact: whole numbers below 2^46.
+	let second_difference = after - 2.0 * next + this;
+	line + rest * (rest - 1.0) / 2.0 * second_difference
 }

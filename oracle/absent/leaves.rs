@@ -14,7 +14,7 @@ use crate::{
 
 /// The amplitude, where the amplitude routine accepts the number.
 pub fn amplitude(decibels: f32) -> Option<f32> {
-	(decibels <= 24.0).then(|| Decibels(decibels).as_amplitude())
+	(decibels <= 23.0).then(|| Decibels(decibels).as_amplitude())
 }
 
 pub fn eased(kind: i32, power: i32, x: f64) -> f64 {

@@ -18,7 +18,7 @@ def rounded(x):
 
 def amplitude(f32_bits):
     n = number(f32_bits)
-    if math.isnan(n) or n > 24:
+    if math.isnan(n) or n > 23:
         return "11"
     if n == 0:
         return f"0 {bits(1.0)}"
@@ -26,10 +26,12 @@ def amplitude(f32_bits):
         return "0 0"
     k = math.floor(Fraction(n) * 16)
     rest = float(Fraction(n) * 16 - k)
-    entry = float(ENTRIES[k - FIRST])
+    this, following, after = map(float, ENTRIES[k - FIRST : k - FIRST + 3])
+    value = this
     if rest:
-        entry += (float(ENTRIES[k - FIRST + 1]) - entry) * rest
-    return f"0 {bits(entry / 2.0**40)}"
+        line = this + (following - this) * rest
+        value = line + rest * (rest - 1.0) / 2.0 * (after - 2.0 * following + this)
+    return f"0 {bits(value / 2.0**40)}"
 
 
 def rounding(f64_bits):

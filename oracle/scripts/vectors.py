@@ -39,7 +39,7 @@ def chunk_time(rng):
 @leaf
 def amplitude(rng):
     yield from [0, 0x80000000, 1, 0x80000001, 0x7F800000, 0xFF800000, 0x7FC00000, 0x7F800001]
-    for decibels in (-96.0, -60.0, -59.9375, -0.0625, 0.0625, 18.0, 20.0, 24.0):
+    for decibels in (-96.0, -60.0, -59.9375, -0.0625, 0.0625, 18.0, 20.0, 23.0, 24.0):
         yield from neighbours(bits(decibels))
     while True:
         yield rng.pick([

@@ -2,3 +2,4 @@ pub mod Decibels
 pub mod Segment
 pub mod Position
 pub mod WholePart
+pub mod Correction

@@ -1,13 +1,14 @@
 // kira's decibels.rs: a change in volume, and the factor that it stands for.
 ghost use mathlib.Core.Path.{_≡_};
 ghost use mathlib.Core.Bool.{not};
-ghost use Prim.Native.Nat.{_^_, _<_};
+ghost use Prim.Native.Nat.{_^_, _≤_, _<_};
 ghost use lib.Ieee as Ieee;
 ghost use lib.Dec.{T};
 ghost use Rattle.laws.specs.Float.{whole};
 ghost use Rattle.gain_table.specs.GainTable.{IsGainTable};
-ghost use Rattle.decibels.specs.Decibels.{amplitude, admitted, silence, entryBelow, restAbove, lineAt, OnTable};
+ghost use Rattle.decibels.specs.Decibels.{amplitude, admitted, silence, lastEntry, entryBelow, restAbove, curveAt};
 ghost use Rattle.decibels.specs.Answer.{answered, amplitudeAnswer};
+use gain_table::GainTable;
 use gain_table::gain_table;
 
 pub struct Decibels(pub f32);
@@ -21,7 +22,7 @@ pub enum AmplitudeAnswer {
 }
 
 // The largest number of decibels that has an amplitude.
-pub const LIMIT: f32 = 24.0;
+pub const LIMIT: f32 = 23.0;
 
 // At or below it a level is silent.
 pub const SILENCE: f32 = -60.0;
@@ -47,7 +48,7 @@ impl Decibels {
     }
 
     // For a caller that keeps the table and knows that the number is not refused.
-    pub fn as_amplitude_in(self, table: &[u64; 1345]) -> Amplitude
+    pub fn as_amplitude_in(self, table: &GainTable) -> Amplitude
         requires { ⌜ IsGainTable (now table) ⌝ }
         requires { ⌜ T (admitted (self .0)) ⌝ }
         ensures { λ r. ⌜ r .0 ≡ amplitude (self .0) ⌝ }
@@ -60,8 +61,8 @@ impl Decibels {
             return Amplitude(0.0);
         }
         let position = position_of(n);
-        let line = line(table, position.entry, position.rest);
-        Amplitude(rounding::f64_to_f32(line / 1099511627776.0))
+        let value = curve_at(table, position.entry, position.rest);
+        Amplitude(rounding::f64_to_f32(value / 1099511627776.0))
     }
 }
 
@@ -106,15 +107,19 @@ pub fn position_of(n: f32) -> Position
     }
 }
 
-fn line(table: &[u64; 1345], entry: usize, rest: f64) -> f64
+// The line to the next entry, less how far the curve lies below it.
+fn curve_at(table: &GainTable, entry: usize, rest: f64) -> f64
     requires { ⌜ IsGainTable (now table) ⌝ }
-    requires { ⌜ OnTable entry rest ⌝ }
-    ensures { λ r. ⌜ r ≡ lineAt entry rest ⌝ }
+    requires { ⌜ entry ≤ lastEntry ⌝ }
+    ensures { λ r. ⌜ r ≡ curveAt entry rest ⌝ }
 {
     let this = table[entry] as f64;
     if rest == 0.0 {
         return this;
     }
     let next = table[entry + 1] as f64;
-    this + (next - this) * rest
+    let after = table[entry + 2] as f64;
+    let line = this + (next - this) * rest;
+    let second = after - 2.0 * next + this;
+    line + rest * (rest - 1.0) / 2.0 * second
 }

@@ -6,6 +6,7 @@ mod segment;
 pub use decibels::Amplitude;
 pub use decibels::AmplitudeAnswer;
 pub use decibels::Decibels;
+pub use decibels::LIMIT;
 pub use export::room_desk_amplitude;
 pub use segment::Segment;
 pub use segment::segment_of;

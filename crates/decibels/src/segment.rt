@@ -1,4 +1,4 @@
-// A segment of the gain table: the line between two entries that stand side by side.
+// A segment of the gain table: the curve between two entries that stand side by side.
 //
 // Levels that all lie inside one need neither the table nor a test for their amplitudes, so that a
 // loop over them vectorises.
@@ -12,15 +12,18 @@ use crate::decibels::Amplitude;
 use crate::decibels::Decibels;
 use crate::decibels::SILENCE;
 use crate::decibels::position_of;
+use gain_table::GainTable;
 
 pub struct Segment {
     // Its two ends in decibels.
     pub low: f32,
     pub high: f32,
-    // The lower end in sixteenths of a decibel, the entry there, and the rise to the next one.
+    // The lower end in sixteenths of a decibel, the entry there, the rise to the next one, and how
+    // much more the rise after that is.
     pub from: f64,
     pub first: f64,
     pub rise: f64,
+    pub second: f64,
 }
 
 // Where an entry stands, in sixteenths of a decibel.
@@ -52,13 +55,10 @@ fn segment_number(level: Decibels) -> usize
         return 0;
     }
     let position = position_of(n);
-    if position.entry < 1343 {
-        return position.entry;
-    }
-    1343
+    position.entry
 }
 
-pub fn segment_of(level: Decibels, table: &[u64; 1345]) -> Segment
+pub fn segment_of(level: Decibels, table: &GainTable) -> Segment
     requires { ⌜ IsGainTable (now table) ⌝ }
     requires { ⌜ T (admitted (level .0)) ⌝ }
     ensures { λ r. ⌜ r ≡ segment (segmentOf (level .0)) ⌝ }
@@ -66,12 +66,14 @@ pub fn segment_of(level: Decibels, table: &[u64; 1345]) -> Segment
     let entry = segment_number(level);
     let first = table[entry] as f64;
     let next = table[entry + 1] as f64;
+    let after = table[entry + 2] as f64;
     Segment {
         low: decibels_at(entry),
         high: decibels_at(entry + 1),
         from: steps_at(entry),
         first,
         rise: next - first,
+        second: after - 2.0 * next + first,
     }
 }
 
@@ -96,6 +98,7 @@ impl Segment {
         let n = level.0;
         let rest = (n as f64) * 16.0 - self.from;
         let line = self.first + self.rise * rest;
-        Amplitude(rounding::normal_f64_to_f32(line / 1099511627776.0))
+        let value = line + rest * (rest - 1.0) / 2.0 * self.second;
+        Amplitude(rounding::normal_f64_to_f32(value / 1099511627776.0))
     }
 }

@@ -4,6 +4,7 @@ ghost use mathlib.Core.Path.{_≡_};
 ghost use Prim.Native.Nat.{min};
 ghost use Rattle.test_amplitude_bench.specs.Amplitudes.{amplitudesOver};
 use decibels::Decibels;
+use decibels::LIMIT;
 
 fn least(a: usize, b: usize) -> usize
     ensures { λ r. ⌜ r ≡ min a b ⌝ }
@@ -22,7 +23,7 @@ pub extern "C" fn room_desk_amplitudes(decibels: &[f32], amplitudes: &mut [f32])
     let mut i = 0;
     while i < n {
         let level = decibels[i];
-        if level <= 24.0 {
+        if level <= LIMIT {
             let amplitude = Decibels(level).as_amplitude_in(&table);
             amplitudes[i] = amplitude.0;
         }

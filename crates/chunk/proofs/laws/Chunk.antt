@@ -1,11 +1,11 @@
 -- What mixing a chunk reads: the lines, and every level before the chunk and at its end.
 use mathlib.Core.Path.{_≡_, refl, sym, ap, ap₂, _∙_, subst}
-use mathlib.Core.Bool.{false, true, not}
+use mathlib.Core.Bool.{false, true}
 use mathlib.Core.List.{List}
 use Prim.Native.Nat.{ℕ, _+_, _≤_, _<_, suc, _^_}
 use lib.IntN.{pos}
 use lib.ListN.{getD, length, replicate, length-replicate}
-use lib.Ieee.{Float, nan, binary32, binary64, div, eq, ofInt, prec, round, sub, le, isNan, inFloat}
+use lib.Ieee.{Float, nan, binary32, binary64, div, eq, ofInt, prec, sub, inFloat}
 use mathlib.Core.Logic.{inl, inr}
 use native.Mathlib.Nat.{lt-of-le-of-lt, le-trans, le-of-eq, eq-zero-or-pos}
 use native.Mathlib.Numerals.{add-one}
@@ -13,13 +13,13 @@ use native.Mathlib.Omega.{arith}
 use lib.Dec.{T, le→leb, lit<, lit≤}
 use lib.Ieee.Scale.{finite}
 use Rattle.decibels.specs.declared.decibels.Amplitude.{Amplitude}
-use Rattle.decibels.specs.Decibels.{amplitude, admitted, limit}
+use Rattle.decibels.specs.Decibels.{amplitude, admitted}
 use Rattle.laws.proofs.laws.Amount.{InUnit, place-amount}
 use Rattle.rounding.specs.Narrow.{narrowed}
 use Rattle.tween.specs.Tweenable.{interpolated}
 use Rattle.limits.specs.Limits.{chunkFramesMost}
 use Rattle.chunk.specs.declared.chunk.Level.{Level}
-use Rattle.laws.proofs.laws.Choice.{true-T, both-T}
+use Rattle.laws.proofs.laws.Choice.{true-T}
 use Rattle.laws.proofs.laws.Loop.{changed-below, changed-cong}
 use Rattle.laws.specs.Float.{one}
 use Rattle.laws.proofs.laws.Float.{zero-of}
@@ -27,9 +27,9 @@ use Rattle.laws.specs.FloatOrder.{Number, magnitude, plus, minus}
 use Rattle.laws.proofs.laws.FloatOrder.{le→units, units→le, eq→units, number-unique, zero-is}
 use Rattle.laws.specs.Interpolate.{interpolate}
 use Rattle.laws.proofs.laws.Interpolate.{range-number, sub-in-range, never-above-start, never-below-start}
-use Rattle.laws.proofs.laws.DecibelRange.{ReadRange, twenty-four, value→read, read-number, value-read, read-most, read-not-nan, integer-pos}
+use Rattle.laws.proofs.laws.DecibelRange.{value→read, read-number, value-read, integer-pos}
 use Rattle.rounding.proofs.laws.Narrow.{narrowed-unit}
-use Rattle.decibels.proofs.laws.Decibels.{amplitude-unity}
+use Rattle.decibels.proofs.laws.Decibels.{amplitude-unity, read-admitted}
 use Rattle.level_amplitudes.specs.Amplitudes.{valueAt, amplitudeAt, withAmplitudes}
 use Rattle.chunk.specs.Chunk.{amountAt, levelAmplitude, isSteady, steadyAmplitude, partAt, withFactors, partsOf, LevelInRange}
 
@@ -57,16 +57,8 @@ amount-is i n h k =
     (sym (ap₂ (div binary64) (ap (λ (j : ℕ). ofInt binary64 (pos j)) (add-one i) ∙ integer-pos binary64 (suc i)) (integer-pos binary64 n)))
     (place-amount binary64 i n h (lt-of-le-of-lt k (lit< tt)))
 
-limit-is : twenty-four ≡ limit
-unfolding ofInt round
-limit-is = refl
-
-admitted-read : (x : Float) → ReadRange x → T (admitted x)
-unfolding admitted
-admitted-read x r = both-T (not (isNan x)) (le x limit) (read-not-nan x r) (subst (λ (y : Float). T (le x y)) limit-is (read-most x r))
-
 pub now-admitted : (l : Level) → LevelInRange l → T (admitted (l .now .0))
-now-admitted l h = admitted-read (l .now .0) (value→read (l .now .0) (h .now))
+now-admitted l h = read-admitted (l .now .0) (value→read (l .now .0) (h .now))
 
 -- ---- parts
 
@@ -74,7 +66,7 @@ part-unit : (part : Float) → IsPart part → InUnit binary32 part
 part-unit part p = subst (InUnit binary32) (sym (p .rounded)) (narrowed-unit binary64 (p .amount) (p .lies))
 
 pub part-admitted : (l : Level) (part : Float) → LevelInRange l → IsPart part → T (admitted (interpolate binary32 (l .before .0) (l .now .0) part))
-part-admitted l part h p = admitted-read (interpolate binary32 (l .before .0) (l .now .0) part) (value-read (l .before .0) (l .now .0) part (part-unit part p) (h .before) (h .now))
+part-admitted l part h p = read-admitted (interpolate binary32 (l .before .0) (l .now .0) part) (value-read (l .before .0) (l .now .0) part (part-unit part p) (h .before) (h .now))
 
 pub level-admitted : (l : Level) (amount : Float) → LevelInRange l → IsAmount amount → T (admitted (interpolated (l .before) (l .now) amount .0))
 unfolding interpolated

@@ -1,16 +1,17 @@
 -- The gain's laws: +0.0 at or below -60, exactly 1.0 at ±0, and from 0 to 16 wherever there is an amplitude.
 -- Assumes nothing.
 use mathlib.Core.Path.{_≡_, refl, sym, ap, _∙_, subst}
-use mathlib.Core.Bool.{Bool, true, false, cond, not, _&&_, _||_}
+use mathlib.Core.Bool.{Bool, true, false, cond, not}
 use Prim.Native.Nat.{ℕ, suc, _+_, _-_, _*_, _%_, _^_, _≤_, _<_}
 use native.Mathlib.Nat.{le-trans, le-of-lt, le-of-eq, mod-lt, lt-of-le-of-lt, mul-le-mul-right, mul-assoc, mul-right-comm, mul-pos, add-mul, sub-add-cancel, add-comm, add-zero, zero-mul}
 use native.Mathlib.Omega.{arith}
 use lib.IntN.{pos}
-use lib.Dec.{T, ltb, eqb, ltb→lt, eqb→eq, lit<, lit≤}
+use lib.Dec.{T, eqb, eqb→eq, lit<, lit≤}
 use lib.Pow.{pow-pos}
-use lib.Ieee.{Float, nan, inf, fin, binary32, binary64, up, down, neg, add, sub, mul, div, eq, le, fits, ofInt}
+use lib.Ieee.{Float, nan, inf, fin, binary32, binary64, up, down, neg, round, add, sub, div, eq, le, isNan, fits, ofInt}
 use lib.Ieee.Bits.{is-true}
-use lib.Ieee.Fits.{and-l, down-pos, ofInt-fits}
+use lib.Ieee.Fits.{and-l, and-i, down-pos, ofInt-fits}
+use Rattle.laws.proofs.laws.Arithmetic.{or-ge}
 use Rattle.rounding.proofs.laws.Narrow.{narrowed-fits, narrowed-le, narrowed-ge}
 use Rattle.gain_table.specs.GainTable.{entry}
 use Rattle.gain_table.proofs.laws.GainTable.{entry-below, entry-rises}
@@ -18,8 +19,8 @@ use Rattle.laws.proofs.laws.Choice.{cond-true, cond-false, true-T}
 use Rattle.laws.specs.Float.{posZero, one, whole}
 use Rattle.laws.proofs.laws.Float.{Zero, positive-zero, negative-zero}
 use Rattle.laws.specs.FloatOrder.{Number, plus, minus}
-use Rattle.laws.proofs.laws.FloatOrder.{units→le, plus-on-grid}
-use Rattle.laws.specs.FloatRound.{Between}
+use Rattle.laws.proofs.laws.FloatOrder.{units→le, plus-on-grid, le-through}
+use Rattle.laws.specs.FloatRound.{Between, integer}
 use Rattle.laws.proofs.laws.FloatRound.{at-integer, sub-exact, div-between, number, units-least, units-most, between-widens}
 use Rattle.laws.proofs.laws.FloatLiteral.{at-posZero}
 use Rattle.laws.specs.FloatBounds.{Within}
@@ -27,8 +28,10 @@ use Rattle.laws.proofs.laws.FloatBounds.{within-between}
 use Rattle.laws.proofs.laws.Amount.{InUnit, round-amount}
 use Rattle.laws.specs.Interpolate.{interpolate}
 use Rattle.laws.proofs.laws.Interpolate.{exact-up}
-use Rattle.decibels.specs.Decibels.{silence, admitted, entryBelow, restAbove, lineAt, curve, amplitude, OnTable, sixteenths}
-use Rattle.decibels.proofs.laws.Position.{Steps, steps, on-table}
+use Rattle.laws.proofs.laws.DecibelRange.{ReadRange, read-number, read-not-nan}
+use Rattle.decibels.specs.Decibels.{limit, silence, lastEntry, admitted, entryBelow, restAbove, lineAt, secondDifference, correctionAt, curveAt, curve, amplitude, sixteenths}
+use Rattle.decibels.proofs.laws.Position.{Steps, steps, entry-most}
+use Rattle.decibels.proofs.laws.Correction.{in-row, lowEnd, highEnd, high-end, corrected-between}
 
 -- ---- exact values
 
@@ -36,14 +39,6 @@ pub amplitude-unity : {n : Float} → Zero n → amplitude n ≡ one
 unfolding amplitude eq ofInt
 amplitude-unity positive-zero = refl
 amplitude-unity negative-zero = refl
-
-pub reach : (A B : ℕ) → T (ltb B A || (eqb A B && true)) → B ≤ A
-reach A B h = go (ltb B A) (eqb A B) (ltb→lt B A) (eqb→eq A B) h
-  where
-    go : (p q : Bool) → (T p → B < A) → (T q → A ≡ B) → T (p || (q && true)) → B ≤ A
-    go true q f g t = le-of-lt (f tt)
-    go false true f g t = le-of-eq (sym (g tt))
-    go false false f g t = absurd t
 
 -- what is at or below -60 is not 0
 not-both : (n : Float) → T (eq n (whole 0)) → T (le n silence) → ⊥
@@ -53,7 +48,7 @@ not-both (inf s) h k = h
 not-both (fin true m e) h k =
     let A = m * up e * 1 in
     let none : A ≡ 0 * down e = eqb→eq A (0 * down e) (and-l (eqb A (0 * down e)) (eqb A 0) h) in
-    let least : 60 * down e ≤ A = reach A (60 * down e) k in
+    let least : 60 * down e ≤ A = or-ge A (60 * down e) k in
     let c = down-pos e in
     omega arith
 not-both (fin false m e) h k =
@@ -121,21 +116,37 @@ to-top a b x h l =
     between-widens binary64 (whole a) (whole b) (whole 0) (whole (2 ^ 44)) x (whole-number a (omega arith)) (whole-number b (omega arith)) (whole-number 0 (lit< tt)) (whole-number (2 ^ 44) (lit< tt))
     (whole-le 0 a (omega arith) (omega arith)) (whole-le b (2 ^ 44) l (lit< tt))
 
-line-between : (k : ℕ) (rest : Float) → OnTable k rest → InUnit binary64 rest → Between binary64 posZero (whole (2 ^ 44)) (lineAt k rest)
+line-inside : (k : ℕ) (rest : Float) → k ≤ lastEntry → InUnit binary64 rest → Between binary64 (whole (entry k)) (whole (entry (suc k))) (lineAt k rest)
 unfolding lineAt interpolate
-line-between k rest t u =
-    let this = entry-below k (t .this) in
-    picked (Between binary64 posZero (whole (2 ^ 44))) (eq rest (whole 0)) (whole (entry k))
-    (add binary64 (whole (entry k)) (mul binary64 (sub binary64 (whole (entry (suc k))) (whole (entry k))) rest))
+line-inside k rest h u =
+    let rises = entry-rises k (omega arith) in
+    let next = entry-below (suc k) (omega arith) in
+    let x = exact (entry k) (entry (suc k)) rises (omega arith) in
+    exact-up binary64 (whole (entry k)) (whole (entry (suc k))) rest (whole-number (entry k) (omega arith)) (whole-number (entry (suc k)) (omega arith)) (x .is-number) u (x .exactly)
+    (whole-le (entry k) (entry (suc k)) rises (omega arith))
+
+-- the ends of what the curve can be from entry k to the next
+abbrev pub curveLeast : ℕ → ℕ
+curveLeast k = lowEnd (entry k) (entry (suc (suc k)))
+
+abbrev pub curveMost : ℕ → ℕ
+curveMost k = highEnd (entry k) (entry (suc k)) (entry (suc (suc k)))
+
+pub curve-inside : (k : ℕ) (rest : Float) → k ≤ lastEntry → InUnit binary64 rest → Between binary64 (whole (curveLeast k)) (whole (curveMost k)) (add binary64 (lineAt k rest) (correctionAt k rest))
+unfolding correctionAt secondDifference
+curve-inside k rest h u = corrected-between (entry k) (entry (suc k)) (entry (suc (suc k))) (in-row k h) (lineAt k rest) rest u (line-inside k rest h u)
+
+pub ends-rise : (k : ℕ) → k ≤ lastEntry → curveLeast k ≤ curveMost k
+ends-rise k h = omega (arith, in-row k h .rises)
+
+curve-at-between : (k : ℕ) (rest : Float) → k ≤ lastEntry → InUnit binary64 rest → Between binary64 posZero (whole (2 ^ 44)) (curveAt k rest)
+unfolding curveAt
+curve-at-between k rest h u =
+    let this = entry-below k (omega arith) in
+    picked (Between binary64 posZero (whole (2 ^ 44))) (eq rest (whole 0)) (whole (entry k)) (add binary64 (lineAt k rest) (correctionAt k rest))
     (λ e. to-top (entry k) (entry k) (whole (entry k)) (omega arith) (omega arith)
     (record { held = ofInt-fits binary64 (pos (entry k)); least = whole-le (entry k) (entry k) (omega arith) (omega arith); most = whole-le (entry k) (entry k) (omega arith) (omega arith) }))
-    (λ e.
-    let rises = entry-rises k (t .next e) in
-    let next = entry-below (suc k) (t .next e) in
-    let x = exact (entry k) (entry (suc k)) rises (omega arith) in
-    to-top (entry k) (entry (suc k)) (interpolate binary64 (whole (entry k)) (whole (entry (suc k))) rest) rises (omega arith)
-    (exact-up binary64 (whole (entry k)) (whole (entry (suc k))) rest (whole-number (entry k) (omega arith)) (whole-number (entry (suc k)) (omega arith)) (x .is-number) u (x .exactly)
-    (whole-le (entry k) (entry (suc k)) rises (omega arith))))
+    (λ e. to-top (curveLeast k) (curveMost k) (add binary64 (lineAt k rest) (correctionAt k rest)) (ends-rise k h) (le-of-lt (high-end (entry k) (entry (suc k)) (entry (suc (suc k))) (in-row k h))) (curve-inside k rest h u))
 
 -- over 2 ^ 40
 scaled : (px mx U : ℕ) → px ≤ 2 ^ 44 * U + mx → px * U ≤ mx * U + 16 * U * (2 ^ 40 * U)
@@ -183,8 +194,8 @@ unfolding curve fits ofInt
 curve-between n S =
     let u : InUnit binary64 (restAbove n) =
     subst (InUnit binary64) (sym (S .rest)) (round-amount binary64 (sixteenths (S .s) (S .a) (S .c) % S .c) (S .c) (S .above) (le-of-lt (mod-lt (sixteenths (S .s) (S .a) (S .c)) (S .above)))) in
-    let q = quotient-between (lineAt (entryBelow n) (restAbove n)) (line-between (entryBelow n) (restAbove n) (on-table n S) u) in
-    let x = div binary64 (lineAt (entryBelow n) (restAbove n)) (whole (2 ^ 40)) in
+    let q = quotient-between (curveAt (entryBelow n) (restAbove n)) (curve-at-between (entryBelow n) (restAbove n) (entry-most n S) u) in
+    let x = div binary64 (curveAt (entryBelow n) (restAbove n)) (whole (2 ^ 40)) in
     record { held = narrowed-fits x; least = narrowed-ge posZero x tt (q .least); most = narrowed-le x (whole 16) tt (q .most) }
 
 zero-between : Between binary32 posZero (whole 16) (whole 0)
@@ -208,3 +219,15 @@ unfolding ofInt
 amplitude-within n f t =
     let b = amplitude-between n f t in
     within-between (record { is-finite = tt; size = lit≤ tt }) (record { is-finite = tt; size = lit≤ tt }) (b .least) (b .most)
+
+-- ---- what a render reads has an amplitude
+
+limit-number : Number binary32 limit
+unfolding fits ofInt
+limit-number = record { held = tt; is-finite = tt }
+
+pub read-admitted : (x : Float) → ReadRange x → T (admitted x)
+unfolding admitted le ofInt round
+read-admitted x h =
+    and-i (not (isNan x)) (le x limit) (read-not-nan x h)
+    (le-through binary32 x (integer binary32 false 20) limit (read-number x h) (at-integer binary32 false 20 (lit< tt) .0) limit-number (h .most) tt)

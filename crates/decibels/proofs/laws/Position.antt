@@ -3,13 +3,13 @@
 use mathlib.Core.Path.{_≡_, refl, sym, ap, _∙_, subst}
 use mathlib.Core.Bool.{Bool, true, false, not, _&&_, _||_, Bool·beq, true≢false}
 use Prim.Native.Nat.{ℕ, zero, suc, _+_, _-_, _*_, _/_, _%_, _^_, _≤_, _<_, zero-le}
-use native.Mathlib.Nat.{le-trans, le-of-eq, le-of-lt, lt-of-le-of-lt, lt-of-lt-of-le, lt-of-not-le, not-le-of-lt, mul-one, one-mul, zero-mul, mul-comm, mul-assoc, mul-right-comm, mul-left-comm, mul-pos, add-mul, mul-sub, mul-add-div-right, add-mul-mod-self-right, div-add-mod', div-lt-iff-lt-mul, div-eq-of-lt-le, mod-eq-sub-div-mul, mul-mod-left, mul-div-cancel, mul-le-mul-right, le-antisymm, zero-lt-suc, le-of-suc-le-suc, le-div-iff-mul-le, div-mul-le-self, mod-lt, le-add-right, lt-of-mul-lt-mul-right, mul-lt-mul-of-pos-right, add-comm}
+use native.Mathlib.Nat.{le-trans, le-of-eq, le-of-lt, lt-of-le-of-lt, lt-of-lt-of-le, lt-of-not-le, not-le-of-lt, mul-one, one-mul, zero-mul, mul-comm, mul-assoc, mul-right-comm, mul-left-comm, mul-pos, add-mul, mul-add-div-right, add-mul-mod-self-right, div-add-mod', div-lt-iff-lt-mul, div-eq-of-lt-le, mod-eq-sub-div-mul, mul-mod-left, mul-div-cancel, mul-le-mul-right, le-antisymm, zero-lt-suc, le-of-suc-le-suc, div-mul-le-self, mod-lt, le-add-right, lt-of-mul-lt-mul-right, mul-lt-mul-of-pos-right, add-comm}
 use native.Mathlib.Omega.{arith}
 use native.Mathlib.Decide.{ℕ-discrete}
 use lib.IntN.{ℤ, pos, negsuc}
-use lib.Dec.{T, ltb, eqb, ltb→lt, le→leb, lt→ltb, nltb→le, eqb→eq, eqb-refl, lit<, lit≤, T-not}
+use lib.Dec.{T, ltb, eqb, le→leb, lt→ltb, nltb→le, eqb-refl, lit<, lit≤, T-not}
 use lib.Arith.{lt-of-le-ne}
-use lib.Pow.{pow-pos, pow-add, pow-mono, pow-lt, shl-lt}
+use lib.Pow.{pow-pos, pow-add, pow-mono, shl-lt}
 use lib.Ieee.{Float, nan, inf, fin, Format, binary32, binary64, low, up, down, unlike, round, sum, neg, add, sub, mul, lt, le, eq, fits, ofInt, ofBits, isNan, toUnsigned, inFloat}
 use lib.Ieee.Digits.{back}
 use lib.Ieee.Fits.{up-pos, down-pos}
@@ -19,11 +19,12 @@ use lib.Ieee.Nearest.{div-same}
 use lib.Ieee.Order.{transfer}
 use lib.Ieee.Back.{round-whole}
 use borrow.Author.Tests.{le-ltb, lt-ltb, eq-eqb, ne-eqb, eqb-true, eqb-false}
+use Rattle.laws.proofs.laws.Arithmetic.{exponent-le, minus-times, or-le}
 use Rattle.laws.specs.Float.{whole}
 use Rattle.laws.proofs.laws.Choice.{cond-true, cond-false}
 use Rattle.laws.proofs.laws.Float.{fits-parts, zero-bits}
 use Rattle.laws.proofs.laws.FloatValue.{round-zero}
-use Rattle.decibels.specs.Decibels.{limit, silence, admitted, sixteenths, entryBelow, restAbove, OnTable}
+use Rattle.decibels.specs.Decibels.{limit, limitDecibels, lastEntry, silence, admitted, sixteenths, entryBelow, restAbove}
 
 -- ---- sums of values, by the fractions that they equal
 
@@ -33,16 +34,13 @@ cross p u v a c d h = simp (mul-assoc, mul-comm, mul-left-comm) (simp (mul-assoc
 cross' : (q u v b c d : ℕ) → q * d ≡ b * v → q * u * (c * d) ≡ b * c * (u * v)
 cross' q u v b c d h = simp (mul-assoc, mul-comm, mul-left-comm) (simp (mul-assoc, mul-comm, mul-left-comm) at (ap (λ (z : ℕ). z * (u * c)) h))
 
-sub-right : (x y z : ℕ) → (x - y) * z ≡ x * z - y * z
-sub-right x y z = mul-comm (x - y) z ∙ mul-sub z x y ∙ ap (λ (t : ℕ). t - z * y) (mul-comm z x) ∙ ap (λ (t : ℕ). x * z - t) (mul-comm z y)
-
 -- p / u is a / c and q / v is b / d, so p / u - q / v is a / c - b / d
 difference : (p q u v a b c d : ℕ) → p * c ≡ a * u → q * d ≡ b * v → (p * v - q * u) * (c * d) ≡ (a * d - b * c) * (u * v)
 difference p q u v a b c d h k =
-    sub-right (p * v) (q * u) (c * d)
+    minus-times (p * v) (q * u) (c * d)
     ∙ ap (λ (t : ℕ). t - q * u * (c * d)) (cross p u v a c d h)
     ∙ ap (λ (t : ℕ). a * d * (u * v) - t) (cross' q u v b c d k)
-    ∙ sym (sub-right (a * d) (b * c) (u * v))
+    ∙ sym (minus-times (a * d) (b * c) (u * v))
 
 -- a / c - b / d, where that is not below 0
 pub sub-at : (f : Format) (x y : Float) (a c b d : ℕ) → 0 < c → 0 < d → HasValue x false a c → HasValue y false b d → b * c ≤ a * d → sub f x y ≡ round f false (a * d - b * c) (c * d)
@@ -105,9 +103,6 @@ like : (s : Bool) → unlike s false ≡ s
 like true = refl
 like false = refl
 
-pow-le : (i j : ℕ) → 2 ^ i ≤ 2 ^ j → i ≤ j
-pow-le i j h = le-of-suc-le-suc (lt-of-not-le λ (g : j < i). not-le-of-lt (pow-lt g) h)
-
 powers : (m p l x y : ℕ) → x * l ≡ y → m * p * x * l ≡ m * (p * y)
 powers m p l x y h = simp (mul-assoc) (ap (λ (z : ℕ). m * (p * z)) h)
 
@@ -121,7 +116,7 @@ exact m (pos k) small fine large s =
     (powers m (2 ^ k) (2 ^ 1074) 16 (2 ^ 1078) refl ∙ ap (λ (z : ℕ). m * z) (sym (pow-add 2 k 1078)) ∙ sym (mul-one (m * 2 ^ (k + 1078))))
 exact m (negsuc k) small fine large s =
     let j = 1078 - suc k in
-    let K : suc k ≤ 149 = pow-le (suc k) 149 fine in
+    let K : suc k ≤ 149 = exponent-le (suc k) 149 fine in
     round-exact binary64 s (m * 1 * 16) (2 ^ suc k * 1) m j (mul-pos (pow-pos (suc k)) (lit< tt)) (lt-of-lt-of-le small (lit≤ tt))
     (lt-of-lt-of-le (shl-lt 24 j small) (pow-mono {i = 24 + j} {j = 2098} (omega arith)))
     (powers m 1 (2 ^ 1074) 16 (2 ^ 1078) refl
@@ -141,7 +136,7 @@ pub record Steps (n : Float) : Type 0 where
   pub above : 0 < c
   pub some : 0 < a
   pub low : s ≡ true → a < 60 * c
-  pub high : s ≡ false → a ≤ 24 * c
+  pub high : s ≡ false → a ≤ limitDecibels * c
 
 rescaled : (x : Float) (s : Bool) (a c : ℕ) → HasValue x s (a * 16) (c * 1) → HasValue x s (16 * a) c
 rescaled x s a c h = subst (λ (z : ℕ). HasValue x s z c) (mul-comm a 16) (subst (λ (z : ℕ). HasValue x s (a * 16) z) (mul-one c) h)
@@ -155,23 +150,15 @@ strict A B h = go (ltb B A) (eqb A B) (nltb→le B A) (λ (e : A ≡ B). subst (
     go false true f g t = absurd t
     go false false f g t = lt-of-le-ne (f tt) g
 
-weak : (A B : ℕ) → T (ltb A B || (eqb A B && true)) → A ≤ B
-weak A B h = go (ltb A B) (eqb A B) (ltb→lt A B) (eqb→eq A B) h
-  where
-    go : (p q : Bool) → (T p → A < B) → (T q → A ≡ B) → T (p || (q && true)) → A ≤ B
-    go true q f g t = le-of-lt (f tt)
-    go false true f g t = le-of-eq (g tt)
-    go false false f g t = absurd t
-
 lowest : (s : Bool) (m : ℕ) (e : ℤ) → T (not (le (fin s m e) silence)) → s ≡ true → m * up e < 60 * down e
 unfolding le neg ofInt
 lowest true m e h p = subst (λ (z : ℕ). z < 60 * down e) (mul-one (m * up e)) (strict (m * up e * 1) (60 * down e) h)
 lowest false m e h p = absurd (true≢false (sym p))
 
-highest : (s : Bool) (m : ℕ) (e : ℤ) → T (le (fin s m e) limit) → s ≡ false → m * up e ≤ 24 * down e
+highest : (s : Bool) (m : ℕ) (e : ℤ) → T (le (fin s m e) limit) → s ≡ false → m * up e ≤ limitDecibels * down e
 unfolding le ofInt
 highest true m e h p = absurd (true≢false p)
-highest false m e h p = subst (λ (z : ℕ). z ≤ 24 * down e) (mul-one (m * up e)) (weak (m * up e * 1) (24 * down e) h)
+highest false m e h p = subst (λ (z : ℕ). z ≤ limitDecibels * down e) (mul-one (m * up e)) (or-le (m * up e * 1) (limitDecibels * down e) h)
 
 zeros-equal : (s : Bool) (a b : ℕ) → a ≡ 0 → b ≡ 0 → T (eqb a b && (Bool·beq s false || eqb a 0))
 zeros-equal s a b p q = subst (λ (z : ℕ). T (eqb z b && (Bool·beq s false || eqb z 0))) (sym p) (subst (λ (z : ℕ). T (eqb 0 z && (Bool·beq s false || true))) (sym q) (go s))
@@ -291,10 +278,10 @@ eq-test (fin false m e) (fin false n k) a c b d C D p q =
 
 -- 960 - A / C with A / C the whole number w
 exact-entry : (A C w : ℕ) → 0 < C → A ≡ w * C → (960 * C - A) / C ≡ 960 - w
-exact-entry A C w h e = ap (λ (z : ℕ). z / C) (ap (λ (z : ℕ). 960 * C - z) e ∙ sym (sub-right 960 w C)) ∙ mul-div-cancel (960 - w) h
+exact-entry A C w h e = ap (λ (z : ℕ). z / C) (ap (λ (z : ℕ). 960 * C - z) e ∙ sym (minus-times 960 w C)) ∙ mul-div-cancel (960 - w) h
 
 exact-rest : (A C w : ℕ) → A ≡ w * C → (960 * C - A) % C ≡ 0
-exact-rest A C w e = ap (λ (z : ℕ). z % C) (ap (λ (z : ℕ). 960 * C - z) e ∙ sym (sub-right 960 w C)) ∙ mul-mod-left (960 - w) C
+exact-rest A C w e = ap (λ (z : ℕ). z % C) (ap (λ (z : ℕ). 960 * C - z) e ∙ sym (minus-times 960 w C)) ∙ mul-mod-left (960 - w) C
 
 -- w * C < A < (w + 1) * C
 record Inside (A C w : ℕ) : Type 0 where
@@ -304,7 +291,7 @@ record Inside (A C w : ℕ) : Type 0 where
 
 part-entry : (A C w : ℕ) → Inside A C w → (960 * C - A) / C ≡ 959 - w
 part-entry A C w i =
-    let W : (959 - w) * C ≡ 959 * C - w * C = sub-right 959 w C in
+    let W : (959 - w) * C ≡ 959 * C - w * C = minus-times 959 w C in
     let most : w * C ≤ 959 * C = mul-le-mul-right C (i .few) in
     let over = i .over in
     let under = i .under in
@@ -312,7 +299,7 @@ part-entry A C w i =
 
 part-rest : (A C w : ℕ) → Inside A C w → (960 * C - A) % C ≡ (w + 1) * C - A
 part-rest A C w i =
-    let W : (959 - w) * C ≡ 959 * C - w * C = sub-right 959 w C in
+    let W : (959 - w) * C ≡ 959 * C - w * C = minus-times 959 w C in
     let most : w * C ≤ 959 * C = mul-le-mul-right C (i .few) in
     let over = i .over in
     let under = i .under in
@@ -335,7 +322,7 @@ pub record From (n : Float) : Type 0 where
   pub C : ℕ
   pub value : HasValue (mul binary64 n sixteen) false A C
   pub above : 0 < C
-  pub bound : A ≤ 384 * C
+  pub bound : A ≤ 16 * limitDecibels * C
   pub entry : entryBelow n ≡ (960 * C + A) / C
   pub rest : restAbove n ≡ round binary64 false ((960 * C + A) % C) C
 
@@ -369,7 +356,7 @@ from n S h =
       C = S .c;
       value = subst (λ (z : Bool). HasValue (mul binary64 n sixteen) z (16 * S .a) (S .c)) e (S .value);
       above = S .above;
-      bound = le-trans (times-le (S .a) (S .c) 24 (S .high e)) (le-of-eq (sym (mul-assoc 16 24 (S .c))));
+      bound = le-trans (times-le (S .a) (S .c) limitDecibels (S .high e)) (le-of-eq (sym (mul-assoc 16 limitDecibels (S .c))));
       entry = S .entry ∙ ap (λ (z : Bool). sixteenths z (S .a) (S .c) / S .c) e;
       rest = S .rest ∙ ap (λ (z : Bool). round binary64 false (sixteenths z (S .a) (S .c) % S .c) (S .c)) e;
     }
@@ -382,7 +369,7 @@ pub below-wide : {n : Float} (b : Below n) → b .A < 2 ^ 53 * b .C
 below-wide b = wide (b .A) (b .C) 960 (b .above) (le-of-lt (b .bound)) (lit< tt)
 
 pub from-wide : {n : Float} (b : From n) → b .A < 2 ^ 53 * b .C
-from-wide b = wide (b .A) (b .C) 384 (b .above) (b .bound) (lit< tt)
+from-wide b = wide (b .A) (b .C) (16 * limitDecibels) (b .above) (b .bound) (lit< tt)
 
 -- ---- the whole part that the code cuts off
 
@@ -395,7 +382,7 @@ from-cut {n} b = cut (mul binary64 n sixteen) (b .A) (b .C) (b .value) (b .above
 pub below-few : {n : Float} (b : Below n) → b .A / b .C ≤ 959
 below-few b = le-of-suc-le-suc (div-lt-iff-lt-mul (b .above) .1 (b .bound))
 
-pub from-few : {n : Float} (b : From n) → b .A / b .C ≤ 384
+pub from-few : {n : Float} (b : From n) → b .A / b .C ≤ 16 * limitDecibels
 from-few b = le-of-suc-le-suc (div-lt-iff-lt-mul (b .above) .1 (lt-of-le-of-lt (b .bound) (omega (arith, b .above))))
 
 pub in-float : (w : ℕ) → w ≤ 1000 → T (inFloat binary64 (pos w))
@@ -439,7 +426,7 @@ module _ (n : Float) (w : ℕ) where
 
   pub above-zero : (b : From n) → w ≡ b .A / b .C → (960 + w ≡ entryBelow n) × (sub binary64 (mul binary64 n sixteen) (whole w) ≡ restAbove n)
   above-zero b e =
-      let few : w ≤ 384 = le-trans (le-of-eq e) (from-few b) in
+      let few : w ≤ 16 * limitDecibels = le-trans (le-of-eq e) (from-few b) in
       let most : w * b .C ≤ b .A = subst (λ (z : ℕ). z * b .C ≤ b .A) (sym e) (div-mul-le-self (b .A) (b .C)) in
       let rest : (960 * b .C + b .A) % b .C ≡ b .A - w * b .C =
       ap (λ (z : ℕ). z % b .C) (add-comm (960 * b .C) (b .A))
@@ -453,39 +440,16 @@ module _ (n : Float) (w : ℕ) where
             ∙ sym (b .rest ∙ ap (λ (z : ℕ). round binary64 false z (b .C)) rest),
       )
 
--- ---- the entries that the line reads are there
+-- ---- the entry is at most the limit's
 
-on-table-below : (n : Float) → Below n → OnTable (entryBelow n) (restAbove n)
-on-table-below n b =
-    let above = b .above in
-    let few : entryBelow n < 961 = subst (λ (z : ℕ). z < 961) (sym (b .entry)) (div-lt-iff-lt-mul above .1 (omega arith)) in
-    record { this = omega arith; next = λ t. omega arith }
-
--- at the last entry there is no rest
-last : (A C : ℕ) → 0 < C → A ≤ 384 * C → A / C ≡ 384 → (960 * C + A) % C ≡ 0
-last A C h b e =
-    let least : 384 * C ≤ A = le-div-iff-mul-le h .0 (le-of-eq (sym e)) in
-    ap (λ (z : ℕ). z % C) (ap (λ (z : ℕ). 960 * C + z) (le-antisymm b least) ∙ sym (add-mul 960 384 C)) ∙ mul-mod-left 1344 C
-
-no-rest-is-zero : T (eq (ofBits binary64 0) (whole 0))
-unfolding eq ofBits ofInt
-no-rest-is-zero = tt
-
-on-table-from : (n : Float) → From n → OnTable (entryBelow n) (restAbove n)
-on-table-from n b =
-    let is : entryBelow n ≡ 960 + b .A / b .C = b .entry ∙ mul-add-div-right (b .above) 960 (b .A) in
-    let few = from-few b in
-    let not-last : T (not (eq (restAbove n) (whole 0))) → b .A / b .C ≡ 384 → ⊥ = λ t e.
-    T-not (eq (restAbove n) (whole 0)) t
-    (subst (λ (z : Float). T (eq z (whole 0))) (sym (b .rest ∙ ap (λ (z : ℕ). round binary64 false z (b .C)) (last (b .A) (b .C) (b .above) (b .bound) e) ∙ round-zero binary64 false (b .C) (b .above) ∙ sym (zero-bits binary64))) no-rest-is-zero) in
-    record {
-      this = omega arith;
-      next = λ t. let less : b .A / b .C < 384 = lt-of-le-ne few (not-last t) in omega arith;
-    }
-
-pub on-table : (n : Float) → Steps n → OnTable (entryBelow n) (restAbove n)
-on-table n S = go (lt (mul binary64 n sixteen) (ofBits binary64 0)) refl
+pub entry-most : (n : Float) → Steps n → entryBelow n ≤ lastEntry
+entry-most n S = go (lt (mul binary64 n sixteen) (ofBits binary64 0)) refl
   where
-    go : (t : Bool) → lt (mul binary64 n sixteen) (ofBits binary64 0) ≡ t → OnTable (entryBelow n) (restAbove n)
-    go true e = on-table-below n (below n S e)
-    go false e = on-table-from n (from n S e)
+    go : (t : Bool) → lt (mul binary64 n sixteen) (ofBits binary64 0) ≡ t → entryBelow n ≤ lastEntry
+    go true e =
+        let b = below n S e in
+        let few : (960 * b .C - b .A) / b .C < 961 = div-lt-iff-lt-mul (b .above) .1 (omega (arith, b .above)) in
+        omega (arith, b .entry)
+    go false e =
+        let b = from n S e in
+        omega (arith, b .entry, mul-add-div-right (b .above) 960 (b .A), from-few b)

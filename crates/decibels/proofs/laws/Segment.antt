@@ -1,4 +1,4 @@
--- Laws of the segments: where a segment holds a level, the line between its two entries gives the level's amplitude.
+-- Laws of the segments: where a segment holds a level, the curve between its two entries gives the level's amplitude.
 -- Assumes nothing.
 use mathlib.Core.Path.{_≡_, refl, sym, ap, _∙_, subst}
 use mathlib.Core.Bool.{Bool, true, false, cond, not, _||_, Bool·beq, true≢false}
@@ -15,10 +15,10 @@ use lib.Ieee.Fits.{and-l, and-r, up-pos, down-pos, round-fits}
 use lib.Ieee.Exact.{HasValue, round-exact}
 use lib.Ieee.Scale.{finite, round-same}
 use lib.Ieee.Back.{round-whole}
+use Rattle.laws.proofs.laws.Arithmetic.{or-ge}
 use Rattle.rounding.specs.Narrow.{narrowed, IsNormal}
 use Rattle.rounding.proofs.laws.Normal.{between-normal}
-use Rattle.gain_table.specs.GainTable.{entry, entries, digits, atMost}
-use Rattle.gain_table.proofs.laws.GainTable.{entry-below, entry-rises}
+use Rattle.gain_table.specs.GainTable.{entry, entries}
 use Rattle.laws.proofs.laws.Choice.{cond-false}
 use Rattle.laws.specs.Float.{posZero, whole}
 use Rattle.laws.proofs.laws.Float.{Zero, zero-of, fits-parts, fits-zero}
@@ -28,35 +28,34 @@ use Rattle.laws.proofs.laws.FloatOrder.{value-finite}
 use Rattle.laws.specs.FloatRound.{Between}
 use Rattle.laws.proofs.laws.FloatRound.{number, units-least, at-integer, div-least}
 use Rattle.laws.proofs.laws.Amount.{InUnit, round-amount}
-use Rattle.laws.specs.Interpolate.{interpolate}
-use Rattle.laws.proofs.laws.Interpolate.{exact-up}
 use Rattle.decibels.specs.declared.segment.Segment.{Segment}
-use Rattle.decibels.specs.Decibels.{silence, admitted, sixteenths, entryBelow, restAbove, lineAt, curve, amplitude}
-use Rattle.decibels.proofs.laws.Position.{sixteen, sub-at, sub-under, add-at, negated, whole-value, by-16}
-use Rattle.decibels.proofs.laws.Decibels.{reach, whole-le, whole-number, exact, to-top, quotient-between}
+use Rattle.decibels.specs.Decibels.{silence, lastEntry, admitted, sixteenths, entryBelow, restAbove, lineAt, correctionAt, curveAt, curve, amplitude}
+use Rattle.decibels.proofs.laws.Position.{sixteen, steps, entry-most, sub-at, sub-under, add-at, negated, whole-value, by-16}
+use Rattle.decibels.proofs.laws.Correction.{in-row, low-end, high-end}
+use Rattle.decibels.proofs.laws.Decibels.{to-top, quotient-between, curveLeast, curveMost, ends-rise, curve-inside}
 use Rattle.decibels.specs.Segment.{stepsAt, decibelsAt, segment, segmentOf, IsSegment, contains}
 
 -- ---- the segment of a level is one of the table's
 
-pub segment-few : (n : Float) → suc (segmentOf n) < entries
+pub segment-few : (n : Float) → T (fits binary32 n) → T (admitted n) → segmentOf n ≤ lastEntry
 unfolding segmentOf
-segment-few n = go (eq n (whole 0)) (le n silence) (ltb (entryBelow n) 1343) (ltb→lt (entryBelow n) 1343)
+segment-few n f t =
+    picked (eq n (whole 0)) 960 (cond (le n silence) 0 (entryBelow n)) (λ e. lit≤ tt)
+    (λ e. picked (le n silence) 0 (entryBelow n) (λ l. lit≤ tt) (λ l. entry-most n (steps n f t l e)))
   where
-    go : (a b c : Bool) → (T c → entryBelow n < 1343) → suc (cond a 960 (cond b 0 (cond c (entryBelow n) 1343))) < entries
-    go true b c h = lit< tt
-    go false true c h = lit< tt
-    go false false true h = omega (arith, h tt)
-    go false false false h = lit< tt
+    picked : (b : Bool) (x y : ℕ) → (T b → x ≤ lastEntry) → (T (not b) → y ≤ lastEntry) → cond b x y ≤ lastEntry
+    picked true x y p q = p tt
+    picked false x y p q = q tt
 
 pub segment-is : (n : Float) → T (fits binary32 n) → T (admitted n) → IsSegment (segment (segmentOf n))
-segment-is n f t = record { number = segmentOf n; there = segment-few n; is = refl }
+segment-is n f t = record { number = segmentOf n; there = segment-few n f t; is = refl }
 
 -- ---- where entry k stands: ±gap k sixteenths, exactly, and below 0 where k is below 960
 
 abbrev gap : ℕ → ℕ
 gap k = 960 - k + (k - 960)
 
-steps-value : (k : ℕ) → k < 1345 → HasValue (stepsAt k) (ltb k 960) (gap k) 1
+steps-value : (k : ℕ) → k < entries → HasValue (stepsAt k) (ltb k 960) (gap k) 1
 unfolding stepsAt
 steps-value k h = go (ltb k 960) (ltb→lt k 960) (nltb→le k 960)
   where
@@ -76,7 +75,7 @@ steps-value k h = go (ltb k 960) (ltb→lt k 960) (nltb→le k 960)
         exactly false (sub binary64 (whole k) (whole 960)) (k * 1 - 960 * 1) (sub-at binary64 (whole k) (whole 960) k 1 960 1 (lit< tt) (lit< tt) this middle (omega (arith, u tt))) (omega (arith, u tt))
 
 -- so few sixteenths are exact
-exact-sixteenths : (s : Bool) (w : ℕ) → w < 1345 → HasValue (round binary32 s w 16) s w 16
+exact-sixteenths : (s : Bool) (w : ℕ) → w < entries → HasValue (round binary32 s w 16) s w 16
 exact-sixteenths s w h =
     let small : w < 2 ^ 24 = lt-of-lt-of-le h (lit≤ tt) in
     round-exact binary32 s w 16 w 145 (lit< tt) small (lt-of-lt-of-le (shl-lt 24 145 small) (pow-mono {i = 169} {j = 277} (lit≤ tt))) (sym (mul-assoc w (2 ^ 145) 16))
@@ -90,11 +89,11 @@ over-sixteen (fin false m e) k v =
     round-same binary32 false (m * up e * 1) (16 * down e) k 16 (mul-pos (lit< {m = 0} {n = 16} tt) (down-pos e)) (lit< tt)
     (ap (λ (z : ℕ). z * 16) (v .1) ∙ mul-comm (k * down e) 16 ∙ mul-left-comm 16 k (down e))
 
-whole-value-32 : (k : ℕ) → k < 1345 → HasValue (ofInt binary32 (pos k)) false k 1
+whole-value-32 : (k : ℕ) → k < entries → HasValue (ofInt binary32 (pos k)) false k 1
 unfolding ofInt
 whole-value-32 k h = round-whole binary32 false k (le-trans (le-of-lt h) (lit≤ tt))
 
-decibels-value : (k : ℕ) → k < 1345 → HasValue (decibelsAt k) (ltb k 960) (gap k) 16
+decibels-value : (k : ℕ) → k < entries → HasValue (decibelsAt k) (ltb k 960) (gap k) 16
 unfolding decibelsAt
 decibels-value k h = go (ltb k 960) (ltb→lt k 960) (nltb→le k 960)
   where
@@ -195,12 +194,12 @@ record Inside (k : ℕ) (s : Bool) (a c : ℕ) : Type 0 where
   over : k * c < sixteenths s a c
   under : sixteenths s a c < suc k * c
 
-inside : (k : ℕ) (s : Bool) (m : ℕ) (e : ℤ) → suc k < entries → T (lt (decibelsAt k) (fin s m e)) → T (lt (fin s m e) (decibelsAt (suc k))) → Inside k s (m * up e) (down e)
+inside : (k : ℕ) (s : Bool) (m : ℕ) (e : ℤ) → k ≤ lastEntry → T (lt (decibelsAt k) (fin s m e)) → T (lt (fin s m e) (decibelsAt (suc k))) → Inside k s (m * up e) (down e)
 inside k s m e K h l = record {
   over = above-entry k (down e) (m * up e) s (stands k) (over-end (decibelsAt k) (ltb k 960) s (gap k) m e (decibels-value k (omega arith)) h);
   under =
       below-entry (suc k) (down e) (m * up e) s (stands (suc k)) (mul-pos (zero-lt-suc k) (down-pos e))
-      (under-end (decibelsAt (suc k)) (ltb (suc k) 960) s (gap (suc k)) m e (decibels-value (suc k) K) l);
+      (under-end (decibelsAt (suc k)) (ltb (suc k) 960) s (gap (suc k)) m e (decibels-value (suc k) (omega arith)) l);
 }
 
 -- ---- what the definition makes of such a level
@@ -226,7 +225,7 @@ not-zero-level k s m e i h =
 not-silent : (k : ℕ) (s : Bool) (m : ℕ) (e : ℤ) → Inside k s (m * up e) (down e) → T (le (fin s m e) silence) → ⊥
 unfolding le neg ofInt
 not-silent k true m e i h =
-    let least : 60 * down e ≤ m * up e * 1 = reach (m * up e * 1) (60 * down e) h in
+    let least : 60 * down e ≤ m * up e * 1 = or-ge (m * up e * 1) (60 * down e) h in
     omega (arith, i .over)
 not-silent k false m e i h =
     let A = m * up e * 1 in
@@ -318,44 +317,27 @@ beyond-few k s a c i = go (sixteenths s a c) (k * c) (suc k * c) (suc-mul k c) (
     go : (x y z : ℕ) → z ≡ y + c → x < z → x - y ≤ c
     go x y z e h = omega arith
 
--- ---- the line
+-- ---- the curve
 
 -- from entry k to the next, by the part `rest`
-abbrev line : ℕ → Float → Float
-line k rest = add binary64 (whole (entry k)) (mul binary64 (sub binary64 (whole (entry (suc k))) (whole (entry k))) rest)
+abbrev corrected : ℕ → Float → Float
+corrected k rest = add binary64 (lineAt k rest) (correctionAt k rest)
 
-line-is : (k : ℕ) (rest : Float) → eq rest (whole 0) ≡ false → lineAt k rest ≡ line k rest
-unfolding lineAt
-line-is k rest e = cond-false (eq rest (whole 0)) (whole (entry k)) (line k rest) e
-
-line-inside : (k : ℕ) (rest : Float) → suc k < entries → InUnit binary64 rest → Between binary64 (whole (entry k)) (whole (entry (suc k))) (line k rest)
-unfolding interpolate
-line-inside k rest K u =
-    let rises = entry-rises k K in
-    let next = entry-below (suc k) K in
-    let x = exact (entry k) (entry (suc k)) rises (omega arith) in
-    exact-up binary64 (whole (entry k)) (whole (entry (suc k))) rest (whole-number (entry k) (omega arith)) (whole-number (entry (suc k)) (omega arith)) (x .is-number) u (x .exactly)
-    (whole-le (entry k) (entry (suc k)) rises (omega arith))
-
-first-entry : 2 ^ 30 ≤ entry 0
-unfolding entry digits atMost
-first-entry = lit≤ tt
-
-entry-least : (k : ℕ) → k < entries → 2 ^ 30 ≤ entry k
-entry-least zero h = first-entry
-entry-least (suc k) h = le-trans (entry-least k (omega arith)) (entry-rises k h)
+curve-is : (k : ℕ) (rest : Float) → eq rest (whole 0) ≡ false → curveAt k rest ≡ corrected k rest
+unfolding curveAt
+curve-is k rest e = cond-false (eq rest (whole 0)) (whole (entry k)) (corrected k rest) e
 
 -- ---- over 2 ^ 40 it is a normal number
 
--- 2 ^ -10
+-- 2 ^ -11
 abbrev least : Float
-least = fin false 1 (negsuc 9)
+least = fin false 1 (negsuc 10)
 
 least-number : Number binary64 least
 unfolding fits
 least-number = record { held = tt; is-finite = tt }
 
-least-plus : plus binary64 least ≡ 2 ^ 1064
+least-plus : plus binary64 least ≡ 2 ^ 1063
 unfolding plus magnitude
 least-plus = refl
 
@@ -363,16 +345,16 @@ least-minus : minus binary64 least ≡ 0
 unfolding minus
 least-minus = refl
 
-from-least : (px mx pv mv py U W : ℕ) → pv ≡ W → mv ≡ 0 → py ≡ 2 ^ 40 * U → W * 2 ^ 40 ≡ 2 ^ 30 * U → 2 ^ 30 * U + mx ≤ px → mx * U + pv * py ≤ px * U + mv * py
+from-least : (px mx pv mv py U W : ℕ) → pv ≡ W → mv ≡ 0 → py ≡ 2 ^ 40 * U → W * 2 ^ 40 ≡ 2 ^ 29 * U → 2 ^ 29 * U + mx ≤ px → mx * U + pv * py ≤ px * U + mv * py
 from-least px mx pv mv py U W a b c d h =
-    let x : 2 ^ 30 * U * U + mx * U ≤ px * U = le-trans (le-of-eq (sym (add-mul (2 ^ 30 * U) mx U))) (mul-le-mul-right U h) in
-    let y : pv * py ≡ 2 ^ 30 * U * U = ap (λ (z : ℕ). z * py) a ∙ ap (λ (z : ℕ). W * z) c ∙ sym (mul-assoc W (2 ^ 40) U) ∙ ap (λ (z : ℕ). z * U) d in
-    le-trans (le-of-eq (ap (λ (z : ℕ). mx * U + z) y ∙ add-comm (mx * U) (2 ^ 30 * U * U))) (le-trans x (le-add-right (px * U) (mv * py)))
+    let x : 2 ^ 29 * U * U + mx * U ≤ px * U = le-trans (le-of-eq (sym (add-mul (2 ^ 29 * U) mx U))) (mul-le-mul-right U h) in
+    let y : pv * py ≡ 2 ^ 29 * U * U = ap (λ (z : ℕ). z * py) a ∙ ap (λ (z : ℕ). W * z) c ∙ sym (mul-assoc W (2 ^ 40) U) ∙ ap (λ (z : ℕ). z * U) d in
+    le-trans (le-of-eq (ap (λ (z : ℕ). mx * U + z) y ∙ add-comm (mx * U) (2 ^ 29 * U * U))) (le-trans x (le-add-right (px * U) (mv * py)))
 
-raised : (pl ml px mx E U : ℕ) → pl ≡ E * U → ml ≡ 0 → 2 ^ 30 * U ≤ E * U → pl + mx ≤ px + ml → 2 ^ 30 * U + mx ≤ px
+raised : (pl ml px mx E U : ℕ) → pl ≡ E * U → ml ≡ 0 → 2 ^ 29 * U ≤ E * U → pl + mx ≤ px + ml → 2 ^ 29 * U + mx ≤ px
 raised pl ml px mx E U a b c h = omega arith
 
-module _ (a b : ℕ) (x : Float) (A : 2 ^ 30 ≤ a) (H : a ≤ b) (B : b < 2 ^ 44) (I : Between binary64 (whole a) (whole b) x) where
+module _ (a b : ℕ) (x : Float) (A : 2 ^ 29 ≤ a) (H : a ≤ b) (B : b < 2 ^ 44) (I : Between binary64 (whole a) (whole b) x) where
   abbrev quotient : Float
   quotient = div binary64 x (whole (2 ^ 40))
 
@@ -386,7 +368,7 @@ module _ (a b : ℕ) (x : Float) (A : 2 ^ 30 ≤ a) (H : a ≤ b) (B : b < 2 ^ 4
       let U = 2 ^ 1074 in
       div-least binary64 x Y least (number binary64 (whole a) (whole b) x (l .0) (h .0) I) (y .0) least-number
       (subst (λ (p : ℕ). 0 < p) (sym (y .1)) (mul-pos (lit< {m = 0} {n = 2 ^ 40} tt) (pow-pos 1074)))
-      (from-least (plus binary64 x) (minus binary64 x) (plus binary64 least) (minus binary64 least) (plus binary64 Y) U (2 ^ 1064) least-plus least-minus (y .1) (sym (pow-add 2 1064 40) ∙ pow-add 2 30 1074)
+      (from-least (plus binary64 x) (minus binary64 x) (plus binary64 least) (minus binary64 least) (plus binary64 Y) U (2 ^ 1063) least-plus least-minus (y .1) (sym (pow-add 2 1063 40) ∙ pow-add 2 29 1074)
       (raised (plus binary64 (whole a)) (minus binary64 (whole a)) (plus binary64 x) (minus binary64 x) a U (l .1) (l .2) (mul-le-mul-right U A) (units-least binary64 (whole a) (whole b) x (l .0) (h .0) I)))
 
   between : Between binary64 posZero (whole 16) quotient
@@ -397,23 +379,29 @@ module _ (a b : ℕ) (x : Float) (A : 2 ^ 30 ≤ a) (H : a ≤ b) (B : b < 2 ^ 4
   quotient-normal =
       let h = at-integer binary64 false 16 (lit< tt) in
       between-normal least (whole 16) quotient least-number (h .0)
-      (le-trans (pow-mono {i = 948} {j = 1064} (lit≤ tt)) (le-of-eq (sym least-plus)))
+      (le-trans (pow-mono {i = 948} {j = 1063} (lit≤ tt)) (le-of-eq (sym least-plus)))
       (lt-of-le-of-lt (le-of-eq (h .1 ∙ sym (pow-add 2 4 1074))) (pow-lt {i = 1078} {j = 1202} (lit< tt)))
       (record { held = between .held; least = from-below; most = between .most })
 
 -- ---- a level that a segment holds
 
--- the line of a segment at a level, as the code works it out
-abbrev pub lineOf : Segment → Float → Float
-lineOf s n = add binary64 (s .first) (mul binary64 (s .rise) (sub binary64 (mul binary64 n sixteen) (s .from)))
+-- how far above its lower end a level stands, and the curve of a segment there, as the code works them out
+abbrev restOf : Segment → Float → Float
+restOf s n = sub binary64 (mul binary64 n sixteen) (s .from)
+
+abbrev curveBy : Segment → Float → Float
+curveBy s rest = add binary64 (add binary64 (s .first) (mul binary64 (s .rise) rest)) (mul binary64 (div binary64 (mul binary64 rest (sub binary64 rest (whole 1))) (whole 2)) (s .second))
+
+abbrev pub curveOf : Segment → Float → Float
+curveOf s n = curveBy s (restOf s n)
 
 record Known (s : Segment) (n : Float) : Type 0 where
-  is : amplitude n ≡ narrowed (div binary64 (lineOf s n) (whole (2 ^ 40)))
-  normal : IsNormal (div binary64 (lineOf s n) (whole (2 ^ 40)))
+  is : amplitude n ≡ narrowed (div binary64 (curveOf s n) (whole (2 ^ 40)))
+  normal : IsNormal (div binary64 (curveOf s n) (whole (2 ^ 40)))
 
 -- at ±a / c
-at-level : (k : ℕ) (s : Bool) (m : ℕ) (e : ℤ) → suc k < entries → T (fits binary32 (fin s (suc m) e)) → Inside k s (suc m * up e) (down e) → Known (segment k) (fin s (suc m) e)
-unfolding segment curve
+at-level : (k : ℕ) (s : Bool) (m : ℕ) (e : ℤ) → k ≤ lastEntry → T (fits binary32 (fin s (suc m) e)) → Inside k s (suc m * up e) (down e) → Known (segment k) (fin s (suc m) e)
+unfolding segment curve lineAt correctionAt
 at-level k s m e K f i =
     let n = fin s (suc m) e in
     let a = suc m * up e in
@@ -428,21 +416,21 @@ at-level k s m e K f i =
       is =
           on-curve k s (suc m) e i
           ∙ ap (λ (z : Float). narrowed (div binary64 z (whole (2 ^ 40))))
-          (ap (λ (z : ℕ). lineAt z (restAbove n)) (entry-is k s (suc m) e i) ∙ ap (lineAt k) same ∙ line-is k rest some);
-      normal = quotient-normal (entry k) (entry (suc k)) (line k rest) (entry-least k (omega arith)) (entry-rises k K) (entry-below (suc k) K) (line-inside k rest K unit);
+          (ap (λ (z : ℕ). curveAt z (restAbove n)) (entry-is k s (suc m) e i) ∙ ap (curveAt k) same ∙ curve-is k rest some);
+      normal = quotient-normal (curveLeast k) (curveMost k) (corrected k rest) (low-end (entry k) (entry (suc k)) (entry (suc (suc k))) (in-row k K)) (ends-rise k K) (high-end (entry k) (entry (suc k)) (entry (suc (suc k))) (in-row k K)) (curve-inside k rest K unit);
     }
 
-known : (k : ℕ) (n : Float) → suc k < entries → T (fits binary32 n) → T (lt (decibelsAt k) n) → T (lt n (decibelsAt (suc k))) → Known (segment k) n
+known : (k : ℕ) (n : Float) → k ≤ lastEntry → T (fits binary32 n) → T (lt (decibelsAt k) n) → T (lt n (decibelsAt (suc k))) → Known (segment k) n
 unfolding lt
 known k nan K f h l = absurd l
 known k (inf s) K f h l =
     absurd
     (not-infinite (decibelsAt k) (decibelsAt (suc k)) s (value-finite (decibelsAt k) (ltb k 960) (gap k) 16 (decibels-value k (omega arith)))
-    (value-finite (decibelsAt (suc k)) (ltb (suc k) 960) (gap (suc k)) 16 (decibels-value (suc k) K)) h l)
+    (value-finite (decibelsAt (suc k)) (ltb (suc k) 960) (gap (suc k)) 16 (decibels-value (suc k) (omega arith))) h l)
 known k (fin s zero e) K f h l = absurd (not-zero-size k s (0 * up e) (down e) (inside k s 0 e K h l) (zero-mul (up e)))
 known k (fin s (suc m) e) K f h l = at-level k s m e K f (inside k s (suc m) e K h l)
 
-known-held : (k : ℕ) (n : Float) → suc k < entries → T (fits binary32 n) → T (contains (segment k) n) → Known (segment k) n
+known-held : (k : ℕ) (n : Float) → k ≤ lastEntry → T (fits binary32 n) → T (contains (segment k) n) → Known (segment k) n
 unfolding contains segment
 known-held k n K f h = known k n K f (and-l (lt (decibelsAt k) n) (lt n (decibelsAt (suc k))) h) (and-r (lt (decibelsAt k) n) (lt n (decibelsAt (suc k))) h)
 
@@ -457,9 +445,9 @@ module _ (s : Segment) (n : Float) (F : T (fits binary32 n)) (I : IsSegment s) (
   here : Known s n
   here = subst (λ (z : Segment). Known z n) (sym (I .is)) (known-held (I .number) n (I .there) F (subst (λ (z : Segment). T (contains z n)) (I .is) H))
 
-  -- the line's amplitude is the level's
-  pub inside-amplitude : amplitude n ≡ narrowed (div binary64 (lineOf s n) (whole (2 ^ 40)))
+  -- the curve's amplitude is the level's
+  pub inside-amplitude : amplitude n ≡ narrowed (div binary64 (curveOf s n) (whole (2 ^ 40)))
   inside-amplitude = here .is
 
-  pub inside-normal : IsNormal (div binary64 (lineOf s n) (whole (2 ^ 40)))
+  pub inside-normal : IsNormal (div binary64 (curveOf s n) (whole (2 ^ 40)))
   inside-normal = here .normal

@@ -4,11 +4,11 @@ use mathlib.Core.Path.{_≡_, refl, sym, ap, _∙_, subst}
 use mathlib.Core.Logic.{inl, inr}
 use mathlib.Core.Bool.{Bool, true, false, not, true≢false}
 use Prim.Native.Nat.{ℕ, _+_, _-_, _*_, _/_, _%_, _^_, _≤_, _<_}
-use native.Mathlib.Nat.{le-trans, le-of-eq, lt-of-lt-of-le, lt-of-le-of-lt, lt-of-not-le, lt-irrefl, eq-zero-or-pos, mul-comm, mul-assoc, mul-right-comm, mul-le-mul-right, mul-lt-mul-of-pos-right, le-of-mul-le-mul-right, lt-of-mul-lt-mul-right, div-eq-of-lt}
+use native.Mathlib.Nat.{le-trans, le-of-eq, lt-of-lt-of-le, lt-of-le-of-lt, lt-irrefl, eq-zero-or-pos, mul-comm, mul-assoc, mul-right-comm, mul-le-mul-right, mul-lt-mul-of-pos-right, le-of-mul-le-mul-right, lt-of-mul-lt-mul-right, div-eq-of-lt}
 use native.Mathlib.Decide.{decLt}
 use native.Mathlib.Omega.{arith}
 use lib.Dec.{T, leb, ltb→lt, nleb→lt, lit≤}
-use lib.Pow.{pow-add, pow-pos, pow-mono, shl-lt}
+use lib.Pow.{pow-add, pow-pos, shl-lt}
 use lib.Ieee.{Float, nan, inf, fin, binary64, up, down, lt, fits, isNan, ofBits, toBits, ofInt, toUnsigned}
 use lib.Ieee.Bits.{ofBits-toBits, toBits-lt}
 use lib.Ieee.Fits.{down-pos}
@@ -16,6 +16,7 @@ use lib.Ieee.Exact.{HasValue}
 use lib.Ieee.Nearest.{div-same}
 use lib.Ieee.Scale.{finite}
 use borrow.Author.Tests.{lt-ltb, ltb-true, ltb-false}
+use Rattle.laws.proofs.laws.Arithmetic.{exponent-lt}
 use Rattle.laws.specs.Float.{whole}
 use Rattle.laws.proofs.laws.Choice.{false-T}
 use Rattle.rounding.proofs.laws.Fields.{field-zero, field-value, field-top}
@@ -77,22 +78,19 @@ bounds (fin false m e) s a c C v R =
 
 -- ---- from the digits d, of which l - y are below the point
 
-pow-lt-back : (i p : ℕ) → 2 ^ i < 2 ^ p → i < p
-pow-lt-back i p h = lt-of-not-le (λ (g : p ≤ i). lt-irrefl (2 ^ i) (lt-of-lt-of-le h (pow-mono g)))
-
 module _ (x : Float) (s : Bool) (d y l : ℕ) (v : HasValue x s (d * 2 ^ y) (2 ^ l)) (R : Cuttable x) where
   known : Bounds s (d * 2 ^ y) (2 ^ l)
   known = bounds x s (d * 2 ^ y) (2 ^ l) (pow-pos l) v R
 
   -- not below 1: of k digits one at least is above the point
   above : (k : ℕ) → d < 2 ^ k → l < k + y
-  above k h = pow-lt-back l (k + y) (lt-of-le-of-lt (known .least) (shl-lt k y h))
+  above k h = exponent-lt l (k + y) (lt-of-le-of-lt (known .least) (shl-lt k y h))
 
   -- below 2 ^ 53: all 53 digits reach down to the point
   within : 2 ^ 52 ≤ d → y ≤ l
   within h =
       let g : 52 + y < 53 + l =
-      pow-lt-back (52 + y) (53 + l) (lt-of-le-of-lt (le-trans (le-of-eq (pow-add 2 52 y)) (mul-le-mul-right (2 ^ y) h)) (lt-of-lt-of-le (known .most) (le-of-eq (sym (pow-add 2 53 l))))) in
+      exponent-lt (52 + y) (53 + l) (lt-of-le-of-lt (le-trans (le-of-eq (pow-add 2 52 y)) (mul-le-mul-right (2 ^ y) h)) (lt-of-lt-of-le (known .most) (le-of-eq (sym (pow-add 2 53 l))))) in
       omega arith
 
   cut-digits : y ≤ l → d / 2 ^ (l - y) ≡ toUnsigned 64 x

@@ -52,19 +52,13 @@ module _ (a b t : Float) (A : InUnit binary32 t) where
   pub silent-stays : SilentRange a → SilentRange b → SilentRange (interpolate binary32 a b t)
   silent-stays h k = interpolate-below binary32 96 60 5 a b (lit< tt) (lit< tt) (lit≤ tt) (lit< tt) h k t A
 
--- ---- the literals -60.0, which is the last silent value, and 24.0, the largest that has an amplitude
+-- ---- the literal -60.0, which is the last silent value
 
 abbrev pub minus-sixty : Float
 minus-sixty = fin true 15 (pos 2)
 
-abbrev pub twenty-four : Float
-twenty-four = fin false 3 (pos 3)
-
 minus-sixty-number : Number binary32 minus-sixty
 minus-sixty-number = record { held = unfold fits in tt; is-finite = tt }
-
-twenty-four-number : Number binary32 twenty-four
-twenty-four-number = record { held = unfold fits in tt; is-finite = tt }
 
 module _ (x : Float) where
   pub silent-most : SilentRange x → T (le x minus-sixty)
@@ -72,10 +66,6 @@ module _ (x : Float) where
   silent-most h =
       le-through binary32 x (integer binary32 true 60) minus-sixty (read-number x (value→read x (target→value x (silent→target x h)))) (at-integer binary32 true 60 (lit< tt) .0)
       minus-sixty-number (h .most) tt
-
-  pub read-most : ReadRange x → T (le x twenty-four)
-  unfolding le round
-  read-most h = le-through binary32 x (integer binary32 false 20) twenty-four (read-number x h) (at-integer binary32 false 20 (lit< tt) .0) twenty-four-number (h .most) tt
 
   pub read-not-nan : ReadRange x → T (not (isNan x))
   read-not-nan h = not-nan x (read-number x h .is-finite)

@@ -1,22 +1,22 @@
 -- What a parameter keeps to: the ranges of its values, what is read of it within a chunk, and that a value which stands still has one amplitude.
 -- Assumes nothing.
 use mathlib.Core.Path.{_≡_, refl, sym, ap, _∙_, subst}
-use mathlib.Core.Bool.{Bool, true, false, cond, not}
+use mathlib.Core.Bool.{Bool, true, false, cond}
 use Prim.Native.Nat.{ℕ, _<_, _^_}
 use native.Mathlib.Omega.{arith}
 use lib.Dec.{T, eqb}
-use lib.Ieee.{Float, binary64, add, le, ofInt, isNan}
-use lib.Ieee.Fits.{and-i}
+use lib.Ieee.{Float, binary64, add, le}
 use borrow.Author.Tests.{eqb-false}
 use Rattle.laws.proofs.laws.Choice.{cond-true}
 use Rattle.laws.specs.Float.{posZero}
 use Rattle.laws.proofs.laws.Amount.{InUnit, add-unsigned}
 use Rattle.laws.specs.Amount.{unsigned}
 use Rattle.laws.specs.DecibelRange.{ValueRange}
-use Rattle.laws.proofs.laws.DecibelRange.{ReadRange, SilentRange, target→value, value→read, read-most, read-not-nan}
+use Rattle.laws.proofs.laws.DecibelRange.{SilentRange, target→value, value→read}
 use Rattle.rounding.specs.Duration.{secsFromMillis}
 use Rattle.decibels.specs.declared.decibels.Decibels.{Decibels}
-use Rattle.decibels.specs.Decibels.{admitted, limit}
+use Rattle.decibels.specs.Decibels.{admitted}
+use Rattle.decibels.proofs.laws.Decibels.{read-admitted}
 use Rattle.clock.specs.declared.when_to_start.Clocks.{Clocks}
 use Rattle.tween.specs.declared.start_time.StartTime.{StartTime}
 use Rattle.tween.specs.declared.start_time.StartTime.the-variants.{Immediate, Delayed, ClockTime}
@@ -156,9 +156,5 @@ set-at-once p target tween dt clocks s d w =
 -- ---- what is read
 
 -- number 11 is never met
-pub read-admitted : (x : Float) → ReadRange x → T (admitted x)
-unfolding admitted ofInt
-read-admitted x h = and-i (not (isNan x)) (le x limit) (read-not-nan x h) (read-most x h)
-
 pub value-admitted : (x : Float) → ValueRange x → T (admitted x)
 value-admitted x h = read-admitted x (value→read x h)

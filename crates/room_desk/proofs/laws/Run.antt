@@ -11,9 +11,9 @@ use Rattle.laws.proofs.laws.DecibelRange.{ReadRange, value→read}
 use Rattle.tween.specs.Tweenable.{interpolated}
 use Rattle.tween.proofs.laws.Tweenable.{interpolated-read}
 use Rattle.parameter.specs.Range.{ParameterIn, valueRange}
-use Rattle.parameter.proofs.laws.Parameter.{read-admitted}
 use Rattle.decibels.specs.Answer.{Answer, amplitudeAnswer}
 use Rattle.decibels.specs.Decibels.{admitted, amplitude}
+use Rattle.decibels.proofs.laws.Decibels.{read-admitted}
 use Rattle.scene_file.specs.Grammar.{tablesOf}
 use Rattle.scene_questions.specs.Questions.{answer}
 use Rattle.scene.specs.declared.scene.Scene.{Scene}

@@ -2,12 +2,12 @@
 -- Assumes nothing.
 use mathlib.Core.Path.{_≡_, _∙_}
 use mathlib.Core.Bool.{not}
-use Prim.Native.Nat.{_/_, _≤_}
+use Prim.Native.Nat.{_*_, _/_, _≤_}
 use native.Mathlib.Nat.{le-trans, le-of-eq}
 use native.Mathlib.Omega.{arith}
 use lib.Ieee.{binary64, fits, isNan, le, mul, neg}
 use lib.Ieee.Fits.{and-i, and-l, fits-widens}
-use Rattle.decibels.specs.Decibels.{admitted, limit}
+use Rattle.decibels.specs.Decibels.{admitted, limit, limitDecibels}
 use Rattle.decibels.proofs.laws.Position.{sixteen, steps, Below, From, below, from, below-wide, from-wide, below-cut, from-cut, below-few, from-few, castable, negated, in-float, at-entry, between-entries, above-zero}
 use Rattle.decibels.proofs.decibels.position_of.Statement.{statement}
 use Rattle.decibels.proofs.decibels.position_of.Tie as tie
@@ -77,7 +77,7 @@ whole-part-requires-2 c κs =
 whole-from : (c : tie.After-whole-part2) → c .whole-part2 .result ≡ known-from (c .before) .A / known-from (c .before) .C
 whole-from c = c .whole-part2 .ensures ∙ from-cut (known-from (c .before))
 
-few-from : (c : tie.After-whole-part2) → c .whole-part2 .result ≤ 384
+few-from : (c : tie.After-whole-part2) → c .whole-part2 .result ≤ 16 * limitDecibels
 few-from c = le-trans (le-of-eq (whole-from c)) (from-few (known-from (c .before)))
 
 add-t16 : tie.Need-add-t16

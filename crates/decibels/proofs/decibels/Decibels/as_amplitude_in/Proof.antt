@@ -1,15 +1,15 @@
 -- `Decibels::as_amplitude_in` meets its contract: each test of the code picks the definition's case.
 -- Assumes nothing.
-use mathlib.Core.Path.{_≡_, sym, ap, _∙_, subst₂}
+use mathlib.Core.Path.{_≡_, sym, ap, _∙_, subst}
 use mathlib.Core.Bool.{true, false, cond}
-use Prim.Native.Nat.{ℕ, _^_}
+use Prim.Native.Nat.{ℕ, _^_, _≤_}
 use lib.Ieee.{Float, binary32, binary64, fits, eq, le, div, neg, ofInt, ofBits}
 use borrow.Author.Needs.{needs}
 use Rattle.laws.specs.Float.{whole}
 use Rattle.rounding.specs.Narrow.{narrowed}
 use Rattle.laws.proofs.laws.Choice.{cond-true, cond-false, false-T, true-T}
-use Rattle.decibels.specs.Decibels.{silence, amplitude, curve, lineAt, entryBelow, restAbove, OnTable}
-use Rattle.decibels.proofs.laws.Position.{steps, on-table}
+use Rattle.decibels.specs.Decibels.{silence, amplitude, curve, curveAt, lastEntry, entryBelow}
+use Rattle.decibels.proofs.laws.Position.{steps, entry-most}
 use Rattle.decibels.proofs.decibels.Decibels.as_amplitude_in.Statement.{statement}
 use Rattle.decibels.proofs.decibels.Decibels.as_amplitude_in.Tie as tie
 
@@ -41,16 +41,12 @@ position-of-requires c κs =
     let n = c .before .before .args .self .0 in
     (c .before .before .pre .1, (false-T (le n silence) (c .if2 .left), false-T (eq n (whole 0)) (c .before .if1 .left)))
 
--- at the entry and the rest as the callee gives them
-positioned : (n : Float) (k : ℕ) (rest : Float) → (k ≡ entryBelow n) × (rest ≡ restAbove n) → OnTable (entryBelow n) (restAbove n) → OnTable k rest
-positioned n k rest e t = subst₂ OnTable (sym (e .0)) (sym (e .1)) t
-
-line-requires : tie.Need-line-requires
+curve-at-requires : tie.Need-curve-at-requires
 unfolding ofInt ofBits neg
-line-requires c κs =
+curve-at-requires c κs =
     let start = c .before .before .before in
     let n = start .args .self .0 in
-    (start .pre .0, positioned n (c .position-of .result .entry) (c .position-of .result .rest) (c .position-of .ensures) (on-table n (steps n (true-T (fits binary32 n) (start .good .0 .1 .1 .0 .1)) (start .pre .1) (false-T (le n silence) (c .before .if2 .left)) (false-T (eq n (whole 0)) (c .before .before .if1 .left)))))
+    (start .pre .0, subst (λ (z : ℕ). z ≤ lastEntry) (sym (c .position-of .ensures .0)) (entry-most n (steps n (true-T (fits binary32 n) (start .good .0 .1 .1 .0 .1)) (start .pre .1) (false-T (le n silence) (c .before .if2 .left)) (false-T (eq n (whole 0)) (c .before .before .if1 .left)))))
 
 f64-to-f32-requires : tie.Need-f64-to-f32-requires
 f64-to-f32-requires c κs = search needs
@@ -62,8 +58,8 @@ returns-3 c =
     let start = at .before .before .before in
     let n = start .args .self .0 in
     c .f64-to-f32 .ensures
-    ∙ ap (λ (z : Float). narrowed (div binary64 z (whole (2 ^ 40)))) (c .before .line .ensures ∙ ap (λ (z : ℕ). lineAt z (at .position-of .result .rest)) (at .position-of .ensures .0) ∙ ap (lineAt (entryBelow n)) (at .position-of .ensures .1))
+    ∙ ap (λ (z : Float). narrowed (div binary64 z (whole (2 ^ 40)))) (c .before .curve-at .ensures ∙ ap (λ (z : ℕ). curveAt z (at .position-of .result .rest)) (at .position-of .ensures .0) ∙ ap (curveAt (entryBelow n)) (at .position-of .ensures .1))
     ∙ sounding n (at .before .before .if1 .left) (at .before .if2 .left)
 
 pub as-amplitude-in-spec : {M : Type 1} → statement M
-as-amplitude-in-spec = tie.close (tie.spec returns returns-2 position-of-requires line-requires f64-to-f32-requires returns-3)
+as-amplitude-in-spec = tie.close (tie.spec returns returns-2 position-of-requires curve-at-requires f64-to-f32-requires returns-3)

@@ -1,4 +1,4 @@
--- `Segment::amplitude_of` meets its contract: between its ends the segment's line is the curve, and over 2 ^ 40 a normal number.
+-- `Segment::amplitude_of` meets its contract: between its ends the segment's curve is the table's, and over 2 ^ 40 a normal number.
 -- Assumes nothing.
 use mathlib.Core.Path.{sym, _∙_}
 use mathlib.Core.Bool.{not}
@@ -17,14 +17,14 @@ float-to-float-rest c =
 normal-f64-to-f32-requires : tie.Need-normal-f64-to-f32-requires
 unfolding ofInt ofBits
 normal-f64-to-f32-requires c κs =
-    let at = c .before .before .before in
+    let at = c .before .before .before .before in
     let start = at .before in
     inside-normal (start .args .self) (start .args .level .0) (at .row-known .given) (start .pre .0) (start .pre .1)
 
 returns : tie.Need-returns
 unfolding ofInt ofBits
 returns c =
-    let at = c .before .before .before .before in
+    let at = c .before .before .before .before .before in
     let start = at .before in
     c .normal-f64-to-f32 .ensures ∙ sym (inside-amplitude (start .args .self) (start .args .level .0) (at .row-known .given) (start .pre .0) (start .pre .1))
 
