@@ -86,7 +86,8 @@ pub const KIND_RESUME: u32 = ZERO + 5;
 pub const NAMES_BYTES: usize = 177;
 
 const NAMES: [u8; NAMES_BYTES] =
-    *b"rate channels buffer block blocks volume\nunit speed ticking\nparent volume\nvolume\ntrack send volume\ntrack first count\nblock kind index volume clock when part millis easing power\n";
+    *b"rate channels buffer block blocks volume\nunit speed ticking\nparent volume\nvolume\ntrack send volume\n\
+       track first count\nblock kind index volume clock when part millis easing power\n";
 
 const RULES: [TableRule; TABLES] = [
     TableRule {
