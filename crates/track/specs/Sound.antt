@@ -19,10 +19,6 @@ soundFrame samples s i = cond (ltb i (s .left)) (sampleFrame samples (s .start +
 unfoldable pub addedSound : List Float → ChunkSound → ℕ → Frame → Frame
 addedSound samples s i a = added a (soundFrame samples s i)
 
--- the zeros that follow it
-abbrev pub addedZero : ℕ → Frame → Frame
-addedZero i a = added a zeroFrame
-
 -- the sounds of track `line` (counted from 1; 0 is the main track) added onto a sum, latest line first
 unfoldable pub withSounds : Chunk → List Float → ℕ → ℕ → Frame → Frame
 withSounds c samples line i sum =

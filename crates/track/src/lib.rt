@@ -1,8 +1,8 @@
-// Sounds, tracks and send tracks: the mix of a chunk. kira's track/sub.rs, track/send.rs, track/main.rs,
+// Tracks and send tracks: the mix of a chunk. kira's track/sub.rs, track/send.rs, track/main.rs,
 // and `Mixer::process`.
 mod mix;
 mod send;
-mod sound;
+mod sounds;
 mod sub;
 
 pub use mix::process;

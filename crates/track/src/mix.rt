@@ -15,7 +15,7 @@ use crate::send::SEND_PART;
 use crate::send::SEND_PLACES;
 use crate::send::add_send;
 use crate::send::apply_level;
-use crate::sound::add_sounds;
+use crate::sounds::add_sounds;
 use crate::sub;
 use chunk::Amplitudes;
 use chunk::Chunk;

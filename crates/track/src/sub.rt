@@ -14,7 +14,7 @@ ghost use Rattle.frame.specs.Running.{AllRunning, AllZero};
 ghost use Rattle.track.specs.Sub.{trackFrame, trackScaled, withTrackSends, withSubSends, sumSet, withRoutesFrom};
 ghost use Rattle.track.specs.Send.{sendPlaces, onSends};
 use crate::send::SEND_PART;
-use crate::sound::add_sounds;
+use crate::sounds::add_sounds;
 use chunk::Amplitudes;
 use chunk::ChunkTrack;
 use chunk::FRAMES;

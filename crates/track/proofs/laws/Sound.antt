@@ -1,36 +1,37 @@
--- A sound's frames in two loops: those that it still has, then zeros. Assumes nothing.
+-- What a sound adds is what its part of the sample buffer adds. Assumes nothing.
 use mathlib.Core.Path.{_≡_, sym, ap, _∙_}
+use mathlib.Core.Logic.{inl, inr}
+use mathlib.Core.Bool.{cond}
 use mathlib.Core.List.{List}
 use Prim.Native.Nat.{ℕ, _+_, _*_, _≤_}
-use native.Mathlib.Nat.{lt-of-lt-of-le}
-use native.Mathlib.Omega.{arith}
+use lib.Dec.{ltb}
 use lib.ListN.{length}
 use lib.Ieee.{Float}
-use Rattle.frame.specs.declared.frame.Frame.{Frame}
-use Rattle.chunk.specs.declared.chunk.ChunkSound.{ChunkSound}
-use Rattle.frame.specs.Frame.{zeroFrame, added, sampleFrame, fromFrame}
-use Rattle.frame.specs.Layout.{scratch, withFirst, withFrames}
-use Rattle.track.specs.Sound.{soundFrame, addedSound, addedZero}
-use Rattle.frame.proofs.laws.Layout.{first-cong, first-rest}
 use Rattle.laws.proofs.laws.Choice.{picks-lt, leaves-lt}
+use Rattle.laws.proofs.laws.FloatRound.{below-or-not}
+use Rattle.frame.specs.Frame.{zeroFrame, added, sampleFrame}
+use Rattle.frame.specs.Layout.{scratch, withFrames}
+use Rattle.frame.proofs.laws.Layout.{first-cong}
+use Rattle.chunk.specs.declared.chunk.ChunkSound.{ChunkSound}
+use Rattle.sound.specs.Part.{remainingPart, partFrame, addedPart}
+use Rattle.sound.proofs.laws.Part.{part-frames, part-at}
+use Rattle.track.specs.Sound.{soundFrame, addedSound}
 
--- frames of the sample buffer added in turn
-abbrev pub played : List Float → ℕ → ℕ → Frame → Frame
-played samples start i a = added a (sampleFrame samples (start + i))
+module _ (samples : List Float) (s : ChunkSound) (held : 2 * (s .start + s .left) ≤ length samples) where
+  part-plays-sound : (i : ℕ) → partFrame (remainingPart samples s) i ≡ soundFrame samples s i
+  unfolding partFrame soundFrame
+  part-plays-sound i =
+      let part = remainingPart samples s in
+      let there = sampleFrame samples (s .start + i) in
+      ap (λ (n : ℕ). cond (ltb i n) (sampleFrame part i) zeroFrame) (part-frames samples s held)
+      ∙ elim (below-or-not i (s .left)) [
+        | inl b ↦ picks-lt i (s .left) (sampleFrame part i) zeroFrame b ∙ part-at samples s held i b ∙ sym (picks-lt i (s .left) there zeroFrame b)
+        | inr b ↦ leaves-lt i (s .left) (sampleFrame part i) zeroFrame b ∙ sym (leaves-lt i (s .left) there zeroFrame b)
+      ]
 
-module _ (samples : List Float) (s : ChunkSound) (n : ℕ) where
-  pub sound-plays : (m : ℕ) (l : List Float) → m ≤ s .left → withFirst (scratch 0 n) (played samples (s .start)) m l ≡ withFirst (scratch 0 n) (addedSound samples s) m l
-  unfolding addedSound soundFrame
-  sound-plays m l h =
-      first-cong (scratch 0 n) (played samples (s .start)) (addedSound samples s) m l
-      (λ k p a. ap (added a) (sym (picks-lt k (s .left) (sampleFrame samples (s .start + k)) zeroFrame (lt-of-lt-of-le p h))))
-
-  sound-silent : (i : ℕ) (a : Frame) → s .left ≤ i → addedZero i a ≡ addedSound samples s i a
-  unfolding addedSound soundFrame
-  sound-silent i a h = ap (added a) (sym (leaves-lt i (s .left) (sampleFrame samples (s .start + i)) zeroFrame h))
-
-  pub sound-ends : (l : List Float) {heard last : List Float} → 2 * n ≤ length l → s .left ≤ n → heard ≡ withFirst (scratch 0 n) (addedSound samples s) (s .left) l → last ≡ withFrames (scratch 0 n) (fromFrame (s .left) addedZero) heard → last ≡ withFrames (scratch 0 n) (addedSound samples s) l
-  sound-ends l w h p e =
+  pub sound-added : (n : ℕ) (l : List Float) {part last : List Float} → part ≡ remainingPart samples s → last ≡ withFrames (scratch 0 n) (addedPart part) l → last ≡ withFrames (scratch 0 n) (addedSound samples s) l
+  unfolding addedPart addedSound
+  sound-added n l {part} is e =
       e
-      ∙ ap (withFrames (scratch 0 n) (fromFrame (s .left) addedZero)) p
-      ∙ first-rest (scratch 0 n) (addedSound samples s) addedZero (s .left) l h (omega (arith, w)) (λ k q _ a. sound-silent k a q)
+      ∙ first-cong (scratch 0 n) (addedPart part) (addedSound samples s) n l
+      (λ k p a. ap (λ (r : List Float). added a (partFrame r k)) is ∙ ap (added a) (part-plays-sound k))

@@ -40,7 +40,7 @@ use Rattle.chunk.proofs.track_at.Reads as track-at-reads
 use Rattle.frame.proofs.add_frames.Reads as add-frames-reads
 use Rattle.links.proofs.last_line.Reads as last-line-reads
 use Rattle.links.proofs.line_before.Reads as line-before-reads
-use Rattle.track.proofs.sound.add_sounds.Reads as add-sounds-reads
+use Rattle.track.proofs.sounds.add_sounds.Reads as add-sounds-reads
 use Rattle.track.proofs.sub.add_routes.Reads as add-routes-reads
 use Rattle.track.proofs.sub.apply_volume.Reads as apply-volume-reads
 use Rattle.track.proofs.sub.+gather+process.{statement}

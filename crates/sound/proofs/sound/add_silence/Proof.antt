@@ -6,10 +6,10 @@ use lib.ListN.{length}
 use borrow.Author.Needs.{needs}
 use Rattle.frame.specs.Frame.{fromFrame, added}
 use Rattle.frame.specs.Layout.{scratch, frameAt, withFirst}
-use Rattle.track.specs.Sound.{addedZero}
+use Rattle.sound.specs.Part.{addedZero}
 use Rattle.frame.proofs.laws.Layout.{first-same, first-put, first-end, from-on, from-before}
-use Rattle.track.proofs.sound.add_silence.Statement.{statement}
-use Rattle.track.proofs.sound.add_silence.Tie as tie
+use Rattle.sound.proofs.sound.add_silence.Statement.{statement}
+use Rattle.sound.proofs.sound.add_silence.Tie as tie
 
 abbrev Inv-loop : tie.InvT-loop
 Inv-loop to₀ first frames i₀ to i = (first ≤ i) × (i ≤ frames) × (length to ≡ length to₀) × (to ≡ withFirst (scratch 0 frames) (fromFrame first addedZero) i to₀)

@@ -11,15 +11,17 @@ use borrow.Author.Needs.{needs}
 use Rattle.chunk.specs.declared.chunk.Chunk.{Chunk}
 use Rattle.chunk.specs.declared.chunk.ChunkSound.{ChunkSound}
 use Rattle.frame.specs.Layout.{scratch, withFrames}
+use Rattle.sound.specs.Part.{remainingPart}
 use Rattle.track.specs.Sound.{addedSound, withSounds}
 use Rattle.frame.proofs.laws.Layout.{Step}
 use Rattle.frame.proofs.laws.Turn.{frames-steps, turn-length, step-picked, step-left}
 use Rattle.chunk.specs.Flat.{chunkFrom}
 use Rattle.track.specs.Owners.{soundLinks}
+use Rattle.track.proofs.laws.Sound.{sound-added}
 use Rattle.track.proofs.laws.Owners.{Follows, Skips, follow-start, follow-less, follow-turn, follow-done}
-use Rattle.track.proofs.sound.add_sounds.Statement.{statement}
+use Rattle.track.proofs.sounds.add_sounds.Statement.{statement}
 use Rattle.chunk.specs.Chunk.{soundRow}
-use Rattle.track.proofs.sound.add_sounds.Tie as tie
+use Rattle.track.proofs.sounds.add_sounds.Tie as tie
 
 -- sound k's turn, and its track
 abbrev step : Chunk → List Float → ℕ → ℕ → Step
@@ -62,11 +64,14 @@ sub-sound-at c = search needs
 sound-at-requires : tie.Need-sound-at-requires Inv-loop μ-loop
 sound-at-requires c κs = omega (arith, c .loop-test .taken, c .before .loop .inv .1 .few, c .before .before .before .before .before .before .pre .0 .sounds)
 
+remaining-requires : tie.Need-remaining-requires Inv-loop μ-loop
+remaining-requires c κs =
+    let l = c .before .before in
+    let start = c .before .before .before .before .before .before .before in
+    subst (λ (s : ChunkSound). 2 * (s .start + s .left) ≤ length (start .args .samples .now)) (sym (c .sound-at .ensures)) (start .pre .0 .held (l .loop .k - 1) (omega (arith, c .before .loop-test .taken, l .loop .inv .1 .few)))
+
 add-sound-requires : tie.Need-add-sound-requires Inv-loop μ-loop
-add-sound-requires c κs =
-    let l = c .before .before .before in
-    let start = c .before .before .before .before .before .before .before .before in
-    (omega (arith, l .loop .inv .0, start .pre .1 .1 .0), subst (λ (s : ChunkSound). 2 * (s .start + s .left) ≤ length (start .args .samples .now)) (sym (c .before .sound-at .ensures)) (start .pre .0 .held (l .loop .k - 1) (omega (arith, c .before .before .loop-test .taken, l .loop .inv .1 .few))))
+add-sound-requires c κs = search needs
 
 line-before-requires : tie.Need-line-before-requires Inv-loop μ-loop
 line-before-requires c κs = search needs
@@ -74,13 +79,13 @@ line-before-requires c κs = search needs
 loop-less : tie.Need-loop-less Inv-loop μ-loop
 unfolding soundLinks
 loop-less c =
-    let l = c .before .before .before .before .before .before .before in
-    let start = c .before .before .before .before .before .before .before .before .before .before .before .before in
+    let l = c .before .before .before .before .before .before .before .before in
+    let start = c .before .before .before .before .before .before .before .before .before .before .before .before .before in
     let args = start .args in
     let chunk = chunkFrom (args .places .now) (args .levels .now) (args .amplitudes .now) in
     let samples = args .samples .now in
     let k = l .loop .k in
-    let h = c .before .before .before .before .before .before .loop-test .taken in
+    let h = c .before .before .before .before .before .before .before .loop-test .taken in
     let g = step chunk samples (args .line) in
     let to = args .to .now in
     follow-less (withFrames (scratch 0 (chunk .frames))) g (chunk .«sound_count») (owner chunk) (args .line) to k (l .loop .to) (start .pre .0 .sounds) (start .pre .1 .1 .1) (start .pre .1 .0) (c .line-before .ensures) h (l .loop .inv .1)
@@ -88,19 +93,19 @@ loop-less c =
 loop-again : tie.Need-loop-again Inv-loop μ-loop
 unfolding soundLinks
 loop-again c =
-    let l = c .before .before .before .before .before .before .before in
-    let start = c .before .before .before .before .before .before .before .before .before .before .before .before in
+    let l = c .before .before .before .before .before .before .before .before in
+    let start = c .before .before .before .before .before .before .before .before .before .before .before .before .before in
     let args = start .args in
     let chunk = chunkFrom (args .places .now) (args .levels .now) (args .amplitudes .now) in
     let samples = args .samples .now in
     let k = l .loop .k in
-    let h = c .before .before .before .before .before .before .loop-test .taken in
+    let h = c .before .before .before .before .before .before .before .loop-test .taken in
     let g = step chunk samples (args .line) in
     let to = args .to .now in
     let sound = soundRow chunk (k - 1) in
-    let e = c .before .before .before .add-sound .ensures
-    ∙ ap (λ (s : ChunkSound). withFrames (scratch 0 (chunk .frames)) (addedSound samples s) (l .loop .to)) (c .before .before .before .before .before .sound-at .ensures)
-    ∙ sym (step-picked (withFrames (scratch 0 (chunk .frames))) (sound .track) (args .line) (addedSound samples sound) (l .loop .to) (l .loop .inv .1 .own h)) in (
+    let held = start .pre .0 .held (k - 1) (omega (arith, h, l .loop .inv .1 .few)) in
+    let played = sound-added samples sound held (chunk .frames) (l .loop .to) (c .before .before .before .before .before .remaining .ensures ∙ ap (remainingPart samples) (c .before .before .before .before .before .before .sound-at .ensures)) (c .before .before .before .add-sound .ensures) in
+    let e = played ∙ sym (step-picked (withFrames (scratch 0 (chunk .frames))) (sound .track) (args .line) (addedSound samples sound) (l .loop .to) (l .loop .inv .1 .own h)) in (
       turn-length (withFrames (scratch 0 (chunk .frames))) (frames-steps (scratch 0 (chunk .frames))) (g (k - 1)) to (l .loop .to) (l .loop .inv .0) e,
       follow-turn (withFrames (scratch 0 (chunk .frames))) g (chunk .«sound_count») (owner chunk) (args .line) to k (l .loop .to) (skips chunk samples (args .line) to) (start .pre .0 .sounds) (start .pre .1 .1 .1) (start .pre .1 .0) (c .line-before .ensures) h (l .loop .inv .1) e,
     )
@@ -129,6 +134,7 @@ add-sounds-spec =
     loop-holds
     sub-sound-at
     sound-at-requires
+    remaining-requires
     add-sound-requires
     line-before-requires
     loop-less

@@ -1,8 +1,8 @@
 use native.Mathlib.Omega.{arith}
 use borrow.Author.Needs.{needs}
-use Rattle.track.proofs.laws.Sound.{sound-ends}
-use Rattle.track.proofs.sound.add_sound.Statement.{statement}
-use Rattle.track.proofs.sound.add_sound.Tie as tie
+use Rattle.sound.proofs.laws.Part.{part-ends}
+use Rattle.sound.proofs.sound.add_sound.Statement.{statement}
+use Rattle.sound.proofs.sound.add_sound.Tie as tie
 
 add-played-requires : tie.Need-add-played-requires
 add-played-requires c κs = search needs
@@ -26,7 +26,7 @@ returns-2 : tie.Need-returns-2
 returns-2 c =
     let start = c .before .before .before .before .before .before .before .before .before .before .before in
     let args = start .args in
-    sound-ends (args .samples .now) (args .sound) (args .frames) (args .to .now) (start .pre .0) (omega (arith, c .before .before .before .before .before .before .before .before .if1 .left)) (c .before .before .before .before .before .before .add-played2 .ensures) (c .before .before .add-silence .ensures)
+    part-ends (args .part .now) (args .frames) (args .to .now) (start .pre) (omega (arith, c .before .before .before .before .before .before .before .before .if1 .left)) (c .before .before .before .before .before .before .add-played2 .ensures) (c .before .before .add-silence .ensures)
 
 pub add-sound-spec : {M : Type 1} → statement M
 add-sound-spec =

@@ -1,0 +1,6 @@
+// Sounds: what one still has to play, as a part of the sample buffer, and the step that adds it onto
+// a sum.
+mod sound;
+
+pub use sound::add_sound;
+pub use sound::remaining;
