@@ -19,6 +19,7 @@ TESTS = [
     ("rounding", "seconds"),
     ("pcm", "minus-zero-lost"),
     ("pcm", "one-lost"),
+    ("order_lines", "cases"),
     ("noninterference", "example"),
     ("noninterference", "same-mix"),
     ("noninterference", "alike-example"),

@@ -1,5 +1,5 @@
 -- Which of a block's orders count, and the tweens that they name (order lines stand for kira's command readers).
-use mathlib.Core.Bool.{Bool, true, false, cond, not, _&&_}
+use mathlib.Core.Bool.{Bool, false, cond, not, _&&_}
 use mathlib.Core.List.{List}
 use Prim.Native.Nat.{ℕ}
 use lib.Dec.{eqb, ltb}
@@ -12,7 +12,8 @@ use Rattle.scene.specs.declared.scene.OrderKind.{OrderKind}
 use Rattle.scene.specs.declared.scene.OrderKind.the-variants.{MainVolume, TrackVolume, SendVolume, RouteVolume, Pause, Resume}
 use Rattle.accepted.specs.Lines.{absentOrderLine}
 
--- ---- which orders count: of a block's orders alike in kind and index only the last
+-- ---- which orders count: of a block's orders alike in kind and index only the last, and of pauses and resumes for a track no resume whose line stands
+-- before the last pause line. Starts and lengths are not looked at.
 
 unfoldable pub kindNumber : OrderKind → ℕ
 kindNumber MainVolume = 0
@@ -22,20 +23,26 @@ kindNumber RouteVolume = 3
 kindNumber Pause = 4
 kindNumber Resume = 5
 
--- of one block, and alike in kind and index
-unfoldable pub sameKindAndIndex : OrderLine → OrderLine → Bool
-sameKindAndIndex a b = eqb (a .block) (b .block) && (eqb (kindNumber (a .kind)) (kindNumber (b .kind)) && eqb (a .index) (b .index))
+-- the other order is of this kind, and for the block and index of the order
+unfoldable pub isKindFor : OrderKind → OrderLine → OrderLine → Bool
+isKindFor kind order other =
+    eqb (other .block) (order .block) && (eqb (kindNumber (other .kind)) (kindNumber kind) && eqb (other .index) (order .index))
 
--- the order on line j is later than the one on line i and alike, or one such was found before
-unfoldable pub foundLater : OrderLine → OrderLine → ℕ → ℕ → Bool → Bool
-foundLater order other i j found = cond (ltb i j && sameKindAndIndex order other) true found
+-- whether line j stands after line i, where its order is such a one; else what was found on the lines before it
+unfoldable pub foundAfter : OrderKind → OrderLine → OrderLine → ℕ → ℕ → Bool → Bool
+foundAfter kind order other i j found = cond (isKindFor kind order other) (ltb i j) found
 
--- a later order is alike
-unfoldable pub overridden : List OrderLine → ℕ → ℕ → Bool
-overridden orders count i = upto (λ j found. foundLater (getD orders i absentOrderLine) (getD orders j absentOrderLine) i j found) count false
+-- the last line of this kind, for the block and index of the order on line i, stands after line i
+unfoldable pub lastIsAfter : List OrderLine → ℕ → OrderKind → ℕ → Bool
+lastIsAfter orders count kind i = upto (λ j found. foundAfter kind (getD orders i absentOrderLine) (getD orders j absentOrderLine) i j found) count false
+
+-- a resume is dropped where the last pause line stands after it
+unfoldable pub dropped : List OrderLine → ℕ → ℕ → Bool
+dropped orders count i = eqb (kindNumber (getD orders i absentOrderLine .kind)) (kindNumber Resume) && lastIsAfter orders count Pause i
 
 unfoldable pub counts : List OrderLine → ℕ → ℕ → ℕ → Bool
-counts orders count block i = eqb (getD orders i absentOrderLine .block) block && not (overridden orders count i)
+counts orders count block i =
+    eqb (getD orders i absentOrderLine .block) block && (not (lastIsAfter orders count (getD orders i absentOrderLine .kind) i) && not (dropped orders count i))
 
 -- ---- what an order does. A line number counts from 1
 

@@ -3,7 +3,7 @@
 ghost use mathlib.Core.Path.{_≡_};
 ghost use Prim.Native.Nat.{_≤_, _<_};
 ghost use Rattle.limits.specs.Limits.{orderLines};
-ghost use Rattle.order_lines.specs.Orders.{kindNumber, sameKindAndIndex, foundLater, overridden, counts, tweenOf, resumeTweenOf};
+ghost use Rattle.order_lines.specs.Orders.{kindNumber, isKindFor, foundAfter, lastIsAfter, counts, tweenOf, resumeTweenOf};
 use limits::ORDER_LINES;
 use scene::OrderKind;
 use scene::OrderLine;
@@ -23,50 +23,55 @@ fn kind_number(kind: OrderKind) -> u32
     }
 }
 
-fn same_kind_and_index(a: OrderLine, b: OrderLine) -> bool
-    ensures { λ r. ⌜ r ≡ sameKindAndIndex a b ⌝ }
+// Whether the other order is of this kind, and for the block and index of the order.
+fn is_kind_for(kind: OrderKind, order: OrderLine, other: OrderLine) -> bool
+    ensures { λ r. ⌜ r ≡ isKindFor kind order other ⌝ }
 {
-    if a.block != b.block {
+    if other.block != order.block {
         return false;
     }
-    let kind = a.kind;
-    let other = b.kind;
-    if kind_number(kind) != kind_number(other) {
+    let other_kind = other.kind;
+    if kind_number(other_kind) != kind_number(kind) {
         return false;
     }
-    a.index == b.index
+    other.index == order.index
 }
 
-// Whether the other order, on line j, is later and alike, or such a one was found before.
-fn found_later(order: OrderLine, other: OrderLine, i: usize, j: usize, found: bool) -> bool
-    ensures { λ r. ⌜ r ≡ foundLater order other i j found ⌝ }
+// Whether line j stands after line i, where its order is such a one.
+fn found_after(
+    kind: OrderKind,
+    order: OrderLine,
+    other: OrderLine,
+    i: usize,
+    j: usize,
+    found: bool,
+) -> bool
+    ensures { λ r. ⌜ r ≡ foundAfter kind order other i j found ⌝ }
 {
-    if j <= i {
-        return found;
-    }
-    if same_kind_and_index(order, other) {
-        return true;
+    if is_kind_for(kind, order, other) {
+        return i < j;
     }
     found
 }
 
-// Whether a later order is alike.
-fn overridden(orders: [OrderLine; ORDER_LINES], count: usize, i: usize) -> bool
+// Whether the last line of this kind, for the block and index of line i, stands after line i.
+fn last_is_after(orders: [OrderLine; ORDER_LINES], count: usize, kind: OrderKind, i: usize) -> bool
     requires { ⌜ count ≤ orderLines ⌝ }
     requires { ⌜ i < count ⌝ }
-    ensures { λ r. ⌜ r ≡ overridden orders count i ⌝ }
+    ensures { λ r. ⌜ r ≡ lastIsAfter orders count kind i ⌝ }
 {
     let order = orders[i];
     let mut found = false;
     let mut j = 0;
     while j < count {
         let other = orders[j];
-        found = found_later(order, other, i, j, found);
+        found = found_after(kind, order, other, i, j, found);
         j += 1;
     }
     found
 }
 
+// Only a resume is compared with lines of another kind.
 pub fn counts(orders: [OrderLine; ORDER_LINES], count: usize, block: usize, i: usize) -> bool
     requires { ⌜ count ≤ orderLines ⌝ }
     requires { ⌜ i < count ⌝ }
@@ -76,7 +81,14 @@ pub fn counts(orders: [OrderLine; ORDER_LINES], count: usize, block: usize, i: u
     if order.block != block {
         return false;
     }
-    !overridden(orders, count, i)
+    let kind = order.kind;
+    if last_is_after(orders, count, kind, i) {
+        return false;
+    }
+    if kind_number(kind) != kind_number(OrderKind::Resume) {
+        return true;
+    }
+    !last_is_after(orders, count, OrderKind::Pause, i)
 }
 
 pub fn tween_of(order: OrderLine) -> Tween

@@ -1,14 +1,12 @@
 -- A held track: one order of block 0 pauses it at once, and no other order pauses or resumes it. Assumes nothing.
 use mathlib.Core.Path.{_≡_, refl, sym, ap, _∙_, subst}
 use mathlib.Core.Logic.{_≢_, inl, inr}
-use mathlib.Core.Bool.{Bool, true, false, not, cond, _&&_}
 use Prim.Native.Nat.{ℕ, suc, _-_, _≤_, _<_}
-use native.Mathlib.Nat.{eq-or-lt-of-le}
+use native.Mathlib.Nat.{eq-or-lt-of-le, le-of-eq}
 use native.Mathlib.Omega.{arith}
-use lib.Dec.{T, eqb, ltb, ltb→lt}
+use lib.Dec.{T}
 use lib.ListN.{length, set, length-set}
 use lib.Seq.{getD-set-same}
-use lib.Ieee.Fits.{and-l, and-r}
 use Rattle.limits.specs.Limits.{trackPlaces}
 use Rattle.laws.proofs.laws.Choice.{cond-true}
 use Rattle.laws.specs.Loop.{upto}
@@ -26,14 +24,14 @@ use Rattle.mixer.specs.declared.sub.Track.{Track}
 use Rattle.mixer.specs.declared.mixer.Mixer.{Mixer}
 use Rattle.mixer.specs.Sub.{trackSet, trackPause}
 use Rattle.mixer.specs.Mixer.{stateOf, absentTrack}
-use Rattle.order_lines.specs.Orders.{kindNumber, foundLater, overridden, counts, tweenOf, sameKindAndIndex}
+use Rattle.order_lines.specs.Orders.{kindNumber, isKindFor, counts, tweenOf}
+use Rattle.order_lines.proofs.laws.Orders.{kind-for-kind, kind-for-index, of-block, pause-counts}
 use Rattle.mixer.specs.Orders.{orderedBy, resumedBy, mixerOrdered, mapTrack, mapSend, mapRoute, mapMain}
 use Rattle.noninterference.proofs.laws.SceneLeft.{HeldTrack}
 use Rattle.noninterference.proofs.laws.Arrays.{line-of}
-use Rattle.noninterference.proofs.laws.Counts.{alike-kind, alike-index}
 use Rattle.noninterference.proofs.laws.Orders.{acted, passes}
 use Rattle.noninterference.proofs.laws.SilentMoves.{Holds}
-use Rattle.noninterference.proofs.laws.SilentOrders.{ordered-holds, resumed-holds, of-block, acted-holds, passes-hold}
+use Rattle.noninterference.proofs.laws.SilentOrders.{ordered-holds, resumed-holds, acted-holds, passes-hold}
 
 abbrev stateAt : Mixer → ℕ → Track
 stateAt m t = stateOf (m .tracks) t
@@ -82,36 +80,20 @@ module _ {s : Scene} {t : ℕ} (ok : SceneOk s) (held : HeldTrack s t) where
   held-later block m p =
       passes-hold (λ (x : Track). Holds (x .playback)) t s (suc block) m (λ i b x q. other-order Holds (suc block) i b (not-now block i) x q) (λ i b x q. no-resume Holds (suc block) i b x q) p
 
-  -- ---- block 0: the pause counts, as no later order is alike
+  -- ---- block 0: the pause counts, as it is the only one
 
-  not-later : (j : ℕ) → j < s .«order_count» → (found : Bool) → found ≡ false → foundLater (orderLine s (held .line)) (orderLine s j) (held .line) j found ≡ false
-  unfolding foundLater
-  not-later j b found e = go (ltb (held .line) j && sameKindAndIndex (orderLine s (held .line)) (orderLine s j)) (λ c. late (and-l (ltb (held .line) j) (sameKindAndIndex (orderLine s (held .line)) (orderLine s j)) c) (and-r (ltb (held .line) j) (sameKindAndIndex (orderLine s (held .line)) (orderLine s j)) c))
-    where
-      go : (c : Bool) → (T c → ⊥) → cond c true found ≡ false
-      go true h = absurd (h tt)
-      go false h = e
-
-      late : T (ltb (held .line) j) → T (sameKindAndIndex (orderLine s (held .line)) (orderLine s j)) → ⊥
-      late l a =
-          let o = orderLine s (held .line) in
-          let p = orderLine s j in
-          let same : j ≡ held .line = held .only j b (inl (sym (alike-kind o p a) ∙ held .pause)) (sym (alike-index o p a) ∙ held .index) in
-          let after : held .line < j = ltb→lt (held .line) j l in
-          omega arith
-
-  pause-counts : counts (s .orders) (s .«order_count») 0 (held .line) ≡ true
-  unfolding counts overridden
-  pause-counts =
-      ap (λ (n : ℕ). eqb n 0 && not (overridden (s .orders) (s .«order_count») (held .line))) (held .block)
-      ∙ ap not
-      (upto-holds (λ j found. found ≡ false) (λ j found. foundLater (orderLine s (held .line)) (orderLine s j) (held .line) j found) (s .«order_count») false refl (λ j b found e. not-later j b found e))
+  only-pause : (j : ℕ) → j < s .«order_count» → T (isKindFor Pause (orderLine s (held .line)) (orderLine s j)) → j ≤ held .line
+  only-pause j b t =
+      let o = orderLine s (held .line) in
+      let p = orderLine s j in
+      le-of-eq (held .only j b (inl (kind-for-kind Pause o p t)) (kind-for-index Pause o p t ∙ held .index))
 
   pause-done : (m : Mixer) → t < length (m .tracks) → acted orderedBy s 0 (held .line) m ≡ mapTrack (suc t) (λ x. trackPause x (tweenOf (orderLine s (held .line)))) m
   unfolding acted orderedBy
   pause-done m b =
       let o = orderLine s (held .line) in
-      cond-true (counts (s .orders) (s .«order_count») 0 (held .line)) (orderedBy (o .kind) o m) m pause-counts
+      cond-true (counts (s .orders) (s .«order_count») 0 (held .line)) (orderedBy (o .kind) o m) m
+      (pause-counts (s .orders) (s .«order_count») (held .line) 0 (held .pause) (held .block) only-pause)
       ∙ ap (λ (k : OrderKind). orderedBy k o m) (held .pause)
       ∙ ap (λ (n : ℕ). mapTrack n (λ x. trackPause x (tweenOf o)) m) (held .index)
 

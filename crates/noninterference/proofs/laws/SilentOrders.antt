@@ -1,11 +1,10 @@
 -- What holds of a track once a block's orders are read, and that a volume with silent orders stays silent. Assumes nothing.
 use mathlib.Core.Path.{_≡_, refl, sym, subst}
-use mathlib.Core.Bool.{Bool, true, false, not, cond}
+use mathlib.Core.Bool.{Bool, true, false, cond}
 use Prim.Native.Nat.{ℕ, suc, _-_, _≤_, _<_}
 use native.Mathlib.Nat.{lt-of-le-of-lt}
 use native.Mathlib.Omega.{arith}
-use lib.Dec.{T, eqb, eqb→eq, lit<}
-use lib.Ieee.Fits.{and-l}
+use lib.Dec.{T, lit<}
 use Rattle.laws.specs.Loop.{upto}
 use Rattle.laws.proofs.laws.Loop.{upto-holds}
 use Rattle.parameter.proofs.laws.Parameter.{silentRange, set-in}
@@ -20,7 +19,7 @@ use Rattle.mixer.specs.declared.sub.Track.{Track}
 use Rattle.mixer.specs.declared.mixer.Mixer.{Mixer}
 use Rattle.mixer.specs.Sub.{trackSet, trackPause, trackResume}
 use Rattle.mixer.specs.Mixer.{stateOf, absentTrack}
-use Rattle.order_lines.specs.Orders.{overridden, counts, tweenOf, resumeTweenOf}
+use Rattle.order_lines.specs.Orders.{counts, tweenOf, resumeTweenOf}
 use Rattle.mixer.specs.Orders.{orderedBy, resumedBy, mixerOrdered, mapTrack, mapSend, mapRoute, mapMain}
 use Rattle.noninterference.proofs.laws.SceneLeft.{MutedTrack}
 use Rattle.noninterference.proofs.laws.Arrays.{set-holds}
@@ -58,11 +57,6 @@ module _ (P : Track → Type 0) (t : ℕ) (m : Mixer) (p : P (stateOf (m .tracks
     resumed-holds RouteVolume o i a = p
     resumed-holds Pause o i a = p
     resumed-holds Resume o i a = line-holds (o .index) (λ x. trackResume x (o .«start_time») (resumeTweenOf o)) (i .0) (a refl)
-
--- where an order counts it is of its block
-pub of-block : (s : Scene) (block i : ℕ) → T (counts (s .orders) (s .«order_count») block i) → orderLine s i .block ≡ block
-unfolding counts
-of-block s block i t = eqb→eq (orderLine s i .block) block (and-l (eqb (orderLine s i .block) block) (not (overridden (s .orders) (s .«order_count») i)) t)
 
 pub acted-holds : (P : Mixer → Type 0) (act : Acts) (s : Scene) (block i : ℕ) (m : Mixer) → P m → (T (counts (s .orders) (s .«order_count») block i) → P (act (orderLine s i .kind) (orderLine s i) m))
     → P (acted act s block i m)

@@ -1,7 +1,7 @@
 -- Blocks without orders, one after the other, of a mixer that stands still: they are blocks of the show. Assumes nothing.
 use mathlib.Core.Path.{_≡_, refl, sym, ap, ap₂, _∙_, subst}
 use mathlib.Core.Logic.{⊎-elim}
-use mathlib.Core.Bool.{Bool, true, false, cond, not, _&&_}
+use mathlib.Core.Bool.{Bool, true, false, cond, _&&_}
 use mathlib.Core.List.{List}
 use Prim.Native.Nat.{ℕ, zero, suc, _+_, _-_, _*_, _≤_, _<_}
 use native.Mathlib.Nat.{le-of-suc-le-suc, eq-or-lt-of-le, le-refl, le-trans, le-of-eq, add-zero, add-suc}
@@ -10,7 +10,7 @@ use lib.Dec.{ltb}
 use lib.ListN.{length, getD}
 use lib.Seq.{ext-getD}
 use lib.Ieee.{Float}
-use borrow.Author.Tests.{ltb-true, ltb-false, lt-ltb, le-ltb, ne-eqb}
+use borrow.Author.Tests.{ltb-true, ltb-false, lt-ltb, le-ltb}
 use Rattle.limits.specs.Limits.{soundLines}
 use Rattle.laws.proofs.laws.Choice.{cond-true, cond-false}
 use Rattle.laws.specs.Loop.{upto}
@@ -22,7 +22,7 @@ use Rattle.accepted.specs.Lines.{soundLine, orderLine}
 use Rattle.accepted.specs.SceneOk.{SceneOk}
 use Rattle.chunk.specs.declared.chunk.Chunk.{Chunk}
 use Rattle.mixer.specs.declared.mixer.Mixer.{Mixer}
-use Rattle.order_lines.specs.Orders.{counts, overridden}
+use Rattle.order_lines.proofs.laws.Orders.{order-skipped}
 use Rattle.mixer.specs.Orders.{orderedBy, resumedBy, orderStep, resumeStep, mixerOrdered}
 use Rattle.mixer_chunk.specs.ChunkOf.{chunkOf}
 use Rattle.mixer.specs.MixerOk.{MixerOk}
@@ -49,15 +49,11 @@ module _ (s : Scene) (m : Mixer) (j : ℕ) where
 -- ---- a block without orders
 
 module _ (s : Scene) (b : ℕ) (none : (i : ℕ) → i < s .«order_count» → orderLine s i .block ≡ b → ⊥) where
-  not-counted : (i : ℕ) → i < s .«order_count» → counts (s .orders) (s .«order_count») b i ≡ false
-  unfolding counts
-  not-counted i h = ap (λ (t : Bool). t && not (overridden (s .orders) (s .«order_count») i)) (ne-eqb (orderLine s i .block) b (none i h))
-
   pub no-orders : (m : Mixer) → mixerOrdered s b m ≡ m
   unfolding mixerOrdered orderStep resumeStep
   no-orders m =
-      ap (upto (resumeStep s b) (s .«order_count»)) (upto-holds (λ i x. x ≡ m) (orderStep s b) (s .«order_count») m refl (λ i h x e. cond-false _ (orderedBy (orderLine s i .kind) (orderLine s i) x) x (not-counted i h) ∙ e))
-      ∙ upto-holds (λ i x. x ≡ m) (resumeStep s b) (s .«order_count») m refl (λ i h x e. cond-false _ (resumedBy (orderLine s i .kind) (orderLine s i) x) x (not-counted i h) ∙ e)
+      ap (upto (resumeStep s b) (s .«order_count»)) (upto-holds (λ i x. x ≡ m) (orderStep s b) (s .«order_count») m refl (λ i h x e. cond-false _ (orderedBy (orderLine s i .kind) (orderLine s i) x) x (order-skipped s b i (none i h)) ∙ e))
+      ∙ upto-holds (λ i x. x ≡ m) (resumeStep s b) (s .«order_count») m refl (λ i h x e. cond-false _ (resumedBy (orderLine s i .kind) (orderLine s i) x) x (order-skipped s b i (none i h)) ∙ e)
 
 -- ---- the next block with orders
 

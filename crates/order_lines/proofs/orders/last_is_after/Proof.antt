@@ -1,4 +1,4 @@
--- `orders::overridden` meets its contract. The invariant: what was found on the lines below j. Assumes nothing.
+-- `orders::last_is_after` meets its contract. The invariant: what was found on the lines below j. Assumes nothing.
 use mathlib.Core.Path.{_≡_, sym, _∙_}
 use mathlib.Core.Bool.{Bool, false}
 use mathlib.Core.List.{List}
@@ -10,20 +10,21 @@ use lib.ListN.{getD}
 use Rattle.laws.specs.Loop.{upto}
 use Rattle.laws.proofs.laws.Loop.{upto-zero, upto-turn}
 use Rattle.scene.specs.declared.scene.OrderLine.{OrderLine}
-use Rattle.order_lines.specs.Orders.{foundLater, overridden}
+use Rattle.scene.specs.declared.scene.OrderKind.{OrderKind}
+use Rattle.order_lines.specs.Orders.{foundAfter, lastIsAfter}
 use Rattle.laws.proofs.laws.Turns.{scaled, next-fits, falls, upto-ended}
-use Rattle.order_lines.proofs.orders.overridden.Statement.{statement}
+use Rattle.order_lines.proofs.orders.last_is_after.Statement.{statement}
 use Rattle.accepted.specs.Lines.{absentOrderLine}
-use Rattle.order_lines.proofs.orders.overridden.Tie as tie
+use Rattle.order_lines.proofs.orders.last_is_after.Tie as tie
 
-abbrev turn : List OrderLine → ℕ → ℕ → Bool → Bool
-turn orders i j found = foundLater (getD orders i absentOrderLine) (getD orders j absentOrderLine) i j found
+abbrev turn : List OrderLine → OrderKind → ℕ → ℕ → Bool → Bool
+turn orders kind i j found = foundAfter kind (getD orders i absentOrderLine) (getD orders j absentOrderLine) i j found
 
 abbrev Inv-loop : tie.InvT-loop
-Inv-loop count i orders order found₀ j₀ found j = (j ≤ count) × (count ≤ 128) × (found ≡ upto (turn orders i) j false)
+Inv-loop count kind i orders order found₀ j₀ found j = (j ≤ count) × (count ≤ 128) × (found ≡ upto (turn orders kind i) j false)
 
 abbrev μ-loop : tie.MeasureT-loop
-μ-loop count i orders order found₀ j₀ found j = count - j
+μ-loop count kind i orders order found₀ j₀ found j = count - j
 
 mul-order : tie.Need-mul-order Inv-loop μ-loop
 mul-order c = record { fits = scaled _ (c .pre .1) (c .pre .0) (lit< tt) }
@@ -40,8 +41,8 @@ mul-other c = record { fits = scaled _ (c .loop-test .taken) (c .before .loop .i
 array-copy-out-other : tie.Need-array-copy-out-other Inv-loop μ-loop
 array-copy-out-other c = lt-of-lt-of-le (c .loop-test .taken) (c .before .loop .inv .1)
 
-found-later-requires : tie.Need-found-later-requires Inv-loop μ-loop
-found-later-requires c κs = tt
+found-after-requires : tie.Need-found-after-requires Inv-loop μ-loop
+found-after-requires c κs = tt
 
 add-j : tie.Need-add-j Inv-loop μ-loop
 add-j c = record { fits = next-fits (c .before .before .loop-test .taken) (c .before .before .before .loop .inv .1) (lit< tt) }
@@ -55,16 +56,16 @@ loop-again c =
     let start = l .before .before in (
       add-one-le (c .before .before .loop-test .taken),
       l .loop .inv .1,
-      c .found-later .ensures ∙ upto-turn (turn (start .args .t1) (start .args .i)) (l .loop .j) false (l .loop .inv .2),
+      c .found-after .ensures ∙ upto-turn (turn (start .args .t1) (start .args .kind) (start .args .i)) (l .loop .j) false (l .loop .inv .2),
     )
 
 returns : tie.Need-returns Inv-loop μ-loop
-unfolding overridden
+unfolding lastIsAfter
 returns c =
     let start = c .before .before .before in
-    upto-ended (turn (start .args .t1) (start .args .i)) false (c .before .loop .inv .0) (c .loop-test .left) (c .before .loop .inv .2)
+    upto-ended (turn (start .args .t1) (start .args .kind) (start .args .i)) false (c .before .loop .inv .0) (c .loop-test .left) (c .before .loop .inv .2)
 
-pub overridden-spec : {M : Type 1} → statement M
-overridden-spec =
+pub last-is-after-spec : {M : Type 1} → statement M
+last-is-after-spec =
     tie.close
-    (tie.spec Inv-loop μ-loop mul-order array-copy-out-order loop-holds mul-other array-copy-out-other found-later-requires add-j loop-less loop-again returns)
+    (tie.spec Inv-loop μ-loop mul-order array-copy-out-order loop-holds mul-other array-copy-out-other found-after-requires add-j loop-less loop-again returns)
