@@ -24,6 +24,10 @@ use crate::{
 	},
 };
 
+/// Kinds of orders.
+const PAUSE: i32 = 4;
+const RESUME: i32 = 5;
+
 /// A scene in kira's hands. The handles stand in line order; dropping one
 /// would remove what it stands for.
 pub struct Show {
@@ -140,10 +144,23 @@ impl Show {
 	fn write_orders(&mut self, block: usize) {
 		for number in 0..self.scene.orders.len() {
 			let order = self.scene.orders[number];
-			if order.block == block {
+			if order.block == block && !self.is_dropped(&order) {
 				self.write(&order);
 			}
 		}
+	}
+
+	/// Our rule, not kira's, which would read the resume after the pause: where
+	/// the last pause line for a block and track stands after the last resume
+	/// line, the resume is dropped.
+	fn is_dropped(&self, order: &Order) -> bool {
+		let last_line = |kind| {
+			let named = |other: &Order| {
+				(other.block, other.kind, other.index) == (order.block, kind, order.index)
+			};
+			self.scene.orders.iter().rposition(named)
+		};
+		order.kind == RESUME && last_line(PAUSE) > last_line(RESUME)
 	}
 
 	fn write(&mut self, order: &Order) {
@@ -157,9 +174,9 @@ impl Show {
 			1 => self.tracks[line].set_volume(volume, tween),
 			2 => self.sends[line].set_volume(volume, tween),
 			3 => self.write_route(line, volume, tween),
-			4 => self.tracks[line].pause(tween),
+			PAUSE => self.tracks[line].pause(tween),
 			// The start belongs to the resume; its fade begins at once.
-			5 => self.tracks[line].resume_at(start, at_once(tween)),
+			RESUME => self.tracks[line].resume_at(start, at_once(tween)),
 			kind => unreachable!("an accepted order has no kind {kind}"),
 		}
 	}

@@ -4,13 +4,18 @@ import scenes
 VOLUMES = (-96000, -60001, -60000, -59999, 0, 18000)
 EASINGS = [(0, 0)] + [(easing, power) for easing in (1, 2, 3) for power in range(1, 9)]
 KINDS = range(6)
+PAUSE, RESUME = 4, 5
+# The pauses and resumes of a block and track, in file order: the last lines decide.
+BOTH_KINDS = ("PR", "RP", "PRP", "RPR", "PPR", "RRP", "RPP", "PRR")
 ALL = (
     [f"depth {n}" for n in range(1, scenes.DEEPEST + 1)]
     + [f"channels {n}" for n in range(1, 9)]
     + [f"volume {n}" for n in VOLUMES]
     + [f"easing {easing} power {power}" for easing, power in EASINGS]
     + [f"order kind {kind}, {start}" for kind in KINDS for start in ("at once", "delayed", "by a clock")]
-    + ["order of 0 ms", "alike orders in one block", "pause and resume in one block"]
+    + ["order of 0 ms", "alike orders in one block"]
+    + [f"lines {lines}" for lines in BOTH_KINDS]
+    + [f"dropped resume that {when} the pause" for when in ("starts with", "starts otherwise than")]
     + ["buffer does not divide block", "route", "clock that does not tick", "sound on the main track"]
     + ["sound without frames", "sound that ends inside a chunk", "32 tracks", "128 orders", "64 sounds"]
 )
@@ -55,5 +60,14 @@ def of_orders(scene):
     alike = [tuple(row[:3]) for row in scene.orders]
     if len(set(alike)) < len(alike):
         yield "alike orders in one block"
-    if any((block, 9 - kind, index) in alike for block, kind, index in alike if kind == 4):
-        yield "pause and resume in one block"
+    for block, kind, index in set(alike):
+        if kind == PAUSE and (block, RESUME, index) in alike:
+            yield from of_both_kinds([row for row in scene.orders if row[0] == block and row[1] in (PAUSE, RESUME) and row[2] == index])
+
+
+def of_both_kinds(rows):
+    """Of a block's pauses and resumes for one track."""
+    yield "lines " + "".join("P" if row[1] == PAUSE else "R" for row in rows)
+    if rows[-1][1] == PAUSE:
+        resume = [row for row in rows if row[1] == RESUME][-1]
+        yield f"dropped resume that starts {'with' if resume[4:7] == rows[-1][4:7] else 'otherwise than'} the pause"

@@ -1,6 +1,6 @@
 #!/usr/bin/env python3
 """Shows that the stored scenes tell right from wrong: each wrong edit of
-kira's text, made in a copy, must change the output of the scene named.
+kira's text or of ours, made in a copy, must change the output of the scene named.
 
     mutants.py [SCENE...]    all, or those of these scenes; about 3 s each
 """
@@ -17,6 +17,7 @@ PARAMETER = KIRA + "parameter.rs"
 PLAYBACK = KIRA + "playback_state_manager.rs"
 TRACK = KIRA + "track/sub.rs"
 RENDERER = KIRA + "backend/renderer.rs"
+HARNESS = "absent/harness.rs"
 NANOSECONDS = "Duration::from_secs_f64(dt)"
 ADVANCING = "self.playback_state_manager.playback_state().is_advancing()"
 CLOCKS = """		self.resources.clocks.update(
@@ -38,6 +39,8 @@ RUN_CHILDREN = """			for (_, sub_track) in &mut self.sub_tracks {
 			self.temp_buffer.fill(Frame::ZERO);
 """
 START_CHILD = "sub_track.on_start_processing();"
+LAST_LINES = "last_line(PAUSE) > last_line(RESUME)"
+NAMED = "(other.block, other.kind, other.index) == (order.block, kind, order.index)"
 STOOD_STILL = "self.playback_state_manager.playback_state() == crate::sound::PlaybackState::Paused"
 
 # The scene that must change, and edits: file, text, other text.
@@ -67,7 +70,16 @@ MUTANTS = [
     ("earlier-alike-order-leaves-no-trace",
      ("stand-ins/triple_buffer/src/lib.rs", "		*self.latest.lock()",
       "if self.latest.lock().unwrap().is_some() { return; }\n*self.latest.lock()")),
-    ("resume-after-pause-in-one-block", (TRACK, READ_PAUSE, ""), (TRACK, READ_RESUME, READ_RESUME + READ_PAUSE)),
+    ("resume-line-after-the-pause-line", (TRACK, READ_PAUSE, ""), (TRACK, READ_RESUME, READ_RESUME + READ_PAUSE)),
+    *((f"dropped-resume-while-{state}", (HARNESS, LAST_LINES, "false"))
+      for state in ("playing", "pausing", "paused", "waiting-to-resume", "resuming")),
+    ("last-pause-line-decides", (HARNESS, ".rposition(named)", ".position(named)")),
+    ("last-resume-line-decides", (HARNESS, LAST_LINES, "last_line(PAUSE).is_some()")),
+    ("dropped-resume-that-waits", (HARNESS, LAST_LINES, f"order.start == Start::Immediate && {LAST_LINES}")),
+    ("dropped-resume-of-a-clock", (HARNESS, LAST_LINES, f"order.start == Start::Immediate && {LAST_LINES}")),
+    ("waiting-pause-drops-a-resume", (HARNESS, NAMED, f"other.start == Start::Immediate && {NAMED}")),
+    ("pause-of-another-track-drops-nothing", (HARNESS, NAMED, "(other.block, other.kind) == (order.block, kind)")),
+    ("pause-of-a-later-block-drops-nothing", (HARNESS, NAMED, "(other.kind, other.index) == (kind, order.index)")),
     ("delayed-resume-leaves-the-fade-running",
      (PLAYBACK, "let finished = self.volume_fade.update(dt, info);",
       "let finished = self.playback_state().is_advancing() && self.volume_fade.update(dt, info);")),

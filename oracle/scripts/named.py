@@ -321,7 +321,7 @@ def pause_that_waits_plays():
     return show(9, orders=orders), lambda c: used_up(c, 1) == 8 and used_up(c, 2) == 16 and used_up(c, 7) == 40
 
 
-# Alike orders, and a pause and a resume in one block.
+# Alike orders.
 
 
 @named
@@ -330,11 +330,108 @@ def earlier_alike_order_leaves_no_trace():
     return show(5, steady(40), orders=orders), lambda c: all(x == 0.5 for part in c for x in part)
 
 
+# A pause and a resume in one block. Where the last pause line stands after the
+# last resume line, the resume is dropped: one scene for each state that the
+# track can be in (docs/DIFFERENCES.md). Else kira reads the pause, then the resume.
+
+
+def dropped_resume(before, resume, pause, after=(), **tables):
+    """The track is in its state when block 2 begins."""
+    orders = [*before, order(2, RESUME, 1, **resume), order(2, PAUSE, 1, **pause), *after]
+    return show(8, tables.pop("samples", steady(64)), orders=orders, **tables)
+
+
 @named
-def resume_after_pause_in_one_block():
-    """The resume wins although its line stands first."""
-    orders = [order(1, RESUME, 1, millis=2), order(1, PAUSE, 1)]
+def dropped_resume_while_playing():
+    scene = dropped_resume([], dict(millis=1), dict(millis=2))
+    return scene, lambda c: still(c[1]) and 0.01 < c[2][-1] < 0.02 and all(map(silent, c[3:]))
+
+
+@named
+def dropped_resume_while_pausing():
+    """The fade goes on from -15 dB, to be over in block 4 and not in block 7."""
+    scene = dropped_resume([order(0, PAUSE, 1, millis=8)], dict(millis=2), dict(millis=3))
+    return scene, lambda c: 0.08 < c[1][-1] < 0.09 and 0.01 < c[2][-1] < 0.02 and c[3][-1] != 0 and all(map(silent, c[4:]))
+
+
+@named
+def dropped_resume_while_paused():
+    """`Pausing` for 3 chunks: silent itself, but the send from below sounds, and
+    its own sound of 24 frames is used up when the track is resumed."""
+    tables = dict(tracks=[[0, 0], [1, 0]], sounds=[[1, 0, 24], [2, 0, 64]], sends=[[0]], routes=[[2, 1, 0]])
+    after = [order(6, RESUME, 1)]
+    scene = dropped_resume([order(0, PAUSE, 1)], dict(millis=1), dict(millis=4), after, samples=steady(64, 0.125), **tables)
+    heard = lambda c: [c[2], c[3], c[4], c[7]] == [[x] * 8 for x in (0.125, 0.125, 0.125, 0.25)]
+    return scene, lambda c: silent(c[1]) and heard(c) and silent(c[5])
+
+
+@named
+def dropped_resume_while_waiting_to_resume():
+    """The resume of block 1 would begin in block 3: the pause takes its place."""
+    scene = dropped_resume([order(0, PAUSE, 1), order(1, RESUME, 1, when=3, millis=1)], dict(millis=1), {})
+    return scene, lambda c: all(map(silent, c))
+
+
+@named
+def dropped_resume_while_resuming():
+    """From -45 dB back to silence."""
+    scene = dropped_resume([order(0, PAUSE, 1), order(1, RESUME, 1, millis=4)], dict(millis=1), dict(millis=2))
+    return scene, lambda c: 0 < c[2][-1] < c[1][-1] < 0.01 and all(map(silent, c[3:]))
+
+
+@named
+def resume_line_after_the_pause_line():
+    """Both are read, and the resume has the last word."""
+    orders = [order(1, PAUSE, 1), order(1, RESUME, 1, millis=2)]
     return show(5, orders=orders), lambda c: used_up(c, 3) == 24
+
+
+@named
+def last_pause_line_decides():
+    """The first pause line stands before the resume."""
+    orders = [order(1, PAUSE, 1, millis=8), order(1, RESUME, 1), order(1, PAUSE, 1, millis=2)]
+    return show(5, steady(40), orders=orders), lambda c: not silent(c[1]) and all(map(silent, c[2:]))
+
+
+@named
+def last_resume_line_decides():
+    """Both are read: a pause line stands between the two resume lines."""
+    orders = [order(1, RESUME, 1, when=FOREVER), order(1, PAUSE, 1), order(1, RESUME, 1, millis=2)]
+    return show(5, orders=orders), lambda c: used_up(c, 3) == 24
+
+
+@named
+def dropped_resume_that_waits():
+    """It would begin long after the pause."""
+    orders = [order(1, RESUME, 1, when=2, millis=1), order(1, PAUSE, 1)]
+    return show(6, orders=orders), lambda c: not silent(c[0]) and all(map(silent, c[1:]))
+
+
+@named
+def dropped_resume_of_a_clock():
+    orders = [order(1, RESUME, 1, clock=1, when=3), order(1, PAUSE, 1)]
+    scene = show(6, clocks=[[0, 1, 1]], orders=orders)
+    return scene, lambda c: not silent(c[0]) and all(map(silent, c[1:]))
+
+
+@named
+def waiting_pause_drops_a_resume():
+    """The resume would begin before the pause does."""
+    orders = [order(1, RESUME, 1), order(1, PAUSE, 1, when=2, millis=1)]
+    return show(6, orders=orders), lambda c: used_up(c, 2) == 16 and all(map(silent, c[3:]))
+
+
+@named
+def pause_of_another_track_drops_nothing():
+    orders = [order(0, PAUSE, 1), order(2, RESUME, 1), order(2, PAUSE, 2)]
+    scene = show(5, tracks=[[0, 0], [0, 0]], orders=orders)
+    return scene, lambda c: silent(c[1]) and used_up(c, 3) == 8
+
+
+@named
+def pause_of_a_later_block_drops_nothing():
+    orders = [order(0, PAUSE, 1), order(1, RESUME, 1), order(3, PAUSE, 1)]
+    return show(5, orders=orders), lambda c: silent(c[0]) and used_up(c, 2) == 8 and silent(c[3])
 
 
 @named
@@ -388,7 +485,7 @@ def delayed_resume_lets_the_fade_go_on():
 
 @named
 def orders_are_read_below_a_paused_track():
-    """Each in its block: read together, the resume would win over the pause."""
+    """Each in its block: kira reading both together would end with the resume."""
     orders = [order(0, PAUSE, 1), order(1, RESUME, 2), order(2, PAUSE, 2)]
     orders += [order(4, RESUME, 1), order(6, RESUME, 2)]
     scene = show(8, tracks=[[0, 0], [1, 0]], sounds=[[2, 0, 64]], orders=orders)

@@ -409,9 +409,12 @@ def second_pause(rng, draft, track, limits):
 
 @breaks()
 def resume(rng, draft, track, limits):
+    """In the pause's own block its line stands after the pause: else it would be dropped."""
     pause(rng, draft, track, limits)
     later = rng.between(0, 3)
-    add_order(rng, draft, track, limits, RESUME, block=later, clock=0, when=0, part=0, millis=rng.below(5))
+    row = order_line(rng, draft, RESUME, limits, block=later, clock=0, when=0, part=0, millis=rng.below(5))
+    paused = next(n for n, (target, other) in enumerate(draft.orders) if target is track and other[1] == PAUSE)
+    inserted(rng, draft.orders, (track, row), 0 if later else paused + 1)
 
 
 @breaks()

@@ -149,7 +149,7 @@ def orders(rng, scene, limits):
         block = 0 if rng.chance(1, 3) else rng.below(blocks)
         kind, index = rng.pick(every)
         if made and rng.chance(1, 3):
-            # Alike with an earlier order, or a pause and a resume in one block.
+            # Alike with an earlier order, or a pause and a resume in one block, in either order of lines.
             block, kind, index = made[rng.below(len(made))][:3]
             if kind in (4, 5) and rng.chance(1, 2):
                 kind = 9 - kind
