@@ -28,6 +28,7 @@ THEOREMS = [
     ("rounding", "narrowed-infinite"),
     ("rounding", "last-bit-even"),
     ("rounding", "narrows-unique"),
+    ("frame", "same-step"),
     ("room_desk", "never-eleven"),
     ("render_files", "first-bytes"),
     ("pcm", "plus-multiple"),

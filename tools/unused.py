@@ -11,9 +11,6 @@ from definitions import ROOT, THEOREMS
 
 # controls and examples: each is a computed test of definitions, which nothing cites
 TESTS = [
-    # sides apart: the other layout, and that a step keeps what two layouts stand for
-    ("frame", "planar"),
-    ("frame", "same-step"),
     ("rounding", "narrowings"),
     ("rounding", "nanos"),
     ("rounding", "seconds"),

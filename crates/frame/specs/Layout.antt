@@ -1,4 +1,5 @@
 -- Buffers of frames. A buffer is a list of numbers, and a layout says where in it frames stand. Everything above speaks of frames, and not of places.
+use mathlib.Core.Path.{_≡_}
 use mathlib.Core.Logic.{_≢_}
 use mathlib.Core.List.{List}
 use Prim.Native.Nat.{ℕ, _+_, _*_, _≤_, _<_}
@@ -31,9 +32,22 @@ interleaved first n =
       apart = λ i j p q e. absurd (omega arith);
     }
 
+-- n left sides, and directly behind them the n right ones
+unfoldable pub planar : (first n : ℕ) → Layout first n
+planar first n =
+    record {
+      left = λ i. first + i;
+      right = λ i. first + n + i;
+      leftIn = λ i h. (omega arith, omega arith);
+      rightIn = λ i h. (omega arith, omega arith);
+      lefts = λ i j p q h e. h (omega arith);
+      rights = λ i j p q h e. h (omega arith);
+      apart = λ i j p q e. absurd (omega arith);
+    }
+
 -- the layout of what tracks and send tracks are mixed in
 abbrev pub scratch : (first n : ℕ) → Layout first n
-scratch = interleaved
+scratch = planar
 
 module _ {first n : ℕ} (L : Layout first n) where
   -- frame i
@@ -51,3 +65,14 @@ module _ {first n : ℕ} (L : Layout first n) where
   -- all of them
   abbrev pub withFrames : (ℕ → Frame → Frame) → List Float → List Float
   withFrames f l = withFirst f n l
+
+-- ---- two buffers in two layouts
+
+-- they stand for the same n frames
+abbrev pub SameFrames : {first n : ℕ} → Layout first n → Layout first n → List Float → List Float → Type 0
+SameFrames {first} {n} L M l m = (i : ℕ) → i < n → frameAt L l i ≡ frameAt M m i
+
+-- The same of buffers of several parts, with n frames from each part's place on: sides in turn in the one, apart in the other. What a chunk is mixed
+-- in has one part, the send tracks' inputs have one for each send track.
+abbrev pub SameParts : (parts width n : ℕ) → List Float → List Float → Type 0
+SameParts parts width n l m = (s : ℕ) → s < parts → SameFrames (interleaved (s * width) n) (scratch (s * width) n) l m

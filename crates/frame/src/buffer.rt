@@ -26,8 +26,8 @@ pub fn frame_at(buffer: &[f32], first: usize, frames: usize, i: usize) -> Frame
     ensures { λ r. ⌜ r ≡ frameAt (scratch first frames) (now (buffer .entry)) i ⌝ }
 {
     Frame {
-        left: buffer[first + 2 * i],
-        right: buffer[first + 2 * i + 1],
+        left: buffer[first + i],
+        right: buffer[first + frames + i],
     }
 }
 
@@ -36,8 +36,8 @@ pub fn put_frame(buffer: &mut [f32], first: usize, frames: usize, i: usize, fram
     requires { ⌜ first + 2 * frames ≤ length (now buffer) ⌝ }
     ensures { λ _. ⌜ now (buffer .exit) ≡ putFrame (scratch first frames) (now (buffer .entry)) i frame ⌝ }
 {
-    buffer[first + 2 * i] = frame.left;
-    buffer[first + 2 * i + 1] = frame.right;
+    buffer[first + i] = frame.left;
+    buffer[first + frames + i] = frame.right;
 }
 
 pub fn clear(buffer: &mut [f32], frames: usize)

@@ -1,6 +1,6 @@
 -- Laws of frames over any layout. First of two pairs of places in a list, then of the frames of one layout and of two whose places lie apart, then of
 -- steps on all frames of a layout. As in `laws`, Loop: `-turn` takes the invariant of a loop over frames to the next turn, `-end` takes it to the
--- contract. At the end both layouts, and that a step keeps what two buffers of different layouts have in common: the frames that they stand for.
+-- contract.
 use mathlib.Core.Path.{_≡_, sym, ap, ap₂, _∙_, subst}
 use mathlib.Core.Logic.{_≢_}
 use mathlib.Core.List.{List}
@@ -366,26 +366,3 @@ silent-at {first} {n} L m i p h =
     ap₂ pair
     (getD-replicate m (L .left i) zeroSample nan (below-far (L .left i) (first + 2 * n) m (L .leftIn i p .1) h))
     (getD-replicate m (L .right i) zeroSample nan (below-far (L .right i) (first + 2 * n) m (L .rightIn i p .1) h))
-
--- ---- both layouts
-
--- n left sides, and directly behind them the n right ones
-unfoldable pub planar : (first n : ℕ) → Layout first n
-planar first n =
-    record {
-      left = λ i. first + i;
-      right = λ i. first + n + i;
-      leftIn = λ i h. (omega arith, omega arith);
-      rightIn = λ i h. (omega arith, omega arith);
-      lefts = λ i j p q h e. h (omega arith);
-      rights = λ i j p q h e. h (omega arith);
-      apart = λ i j p q e. absurd (omega arith);
-    }
-
--- two buffers stand for the same n frames
-abbrev pub SameFrames : {first second n : ℕ} → Layout first n → Layout second n → List Float → List Float → Type 0
-SameFrames {first} {second} {n} L M l m = (i : ℕ) → i < n → frameAt L l i ≡ frameAt M m i
-
--- a step on the one and the same step on the other keep it
-pub same-step : {first second n : ℕ} (L : Layout first n) (M : Layout second n) (f : Step) (l m : List Float) → first + 2 * n ≤ length l → second + 2 * n ≤ length m → SameFrames L M l m → SameFrames L M (withFrames L f l) (withFrames M f m)
-same-step {first} {second} {n} L M f l m r s h i b = first-at L f n l i (le-refl n) r b ∙ ap (f i) (h i b) ∙ sym (first-at M f n m i (le-refl n) s b)
