@@ -2,8 +2,8 @@
 use mathlib.Core.Path.{_≡_}
 use mathlib.Core.Bool.{cond}
 use mathlib.Core.List.{List, [], _∷_, _++_}
-use Prim.Native.Nat.{ℕ, zero, suc, _+_, _*_, _/_, _%_}
-use lib.Dec.{eqb, leb, ltb}
+use Prim.Native.Nat.{ℕ, _+_, _*_, _/_, _%_}
+use lib.Dec.{eqb, leb}
 use lib.ListN.{length, getD, take}
 use lib.Ieee.{Float, nan, binary32, ofBits, toBits}
 use Rattle.limits.specs.Limits.{fileBytes}
@@ -15,6 +15,7 @@ use Rattle.scene_questions.specs.Questions.{outputLength, firstNo, inputQuestio
 use Rattle.scene.specs.Scene.{sceneOf}
 use Rattle.scene_reader.specs.Answer.{also}
 use Rattle.renderer.specs.Renderer.{rendered}
+use Rattle.text_output.specs.Text.{steps32, decimal, printedRefusal}
 
 -- ---- samples.raw: f32, little-endian
 
@@ -37,15 +38,6 @@ programAnswer file raw =
 
 -- ---- what is printed
 
--- a number's decimal digits, `steps` and one more at most, without a leading zero
-unfoldable pub decimalWithin : ℕ → ℕ → List ℕ
-decimalWithin zero n = (48 + n % 10) ∷ []
-decimalWithin (suc steps) n = cond (ltb n 10) ((48 + n) ∷ []) (decimalWithin steps (n / 10) ++ ((48 + n % 10) ∷ []))
-
--- a number below 2^32 has at most ten
-unfoldable pub decimal : ℕ → List ℕ
-decimal n = decimalWithin 9 n
-
 -- `block place bits`, with its line feed
 unfoldable pub line : ℕ → ℕ → ℕ → List ℕ
 line block place bits = decimal block ++ (32 ∷ (decimal place ++ (32 ∷ (decimal bits ++ (10 ∷ [])))))
@@ -53,9 +45,6 @@ line block place bits = decimal block ++ (32 ∷ (decimal place ++ (32 ∷ (deci
 unfoldable pub printedOutput : ℕ → List Float → List ℕ
 printedOutput width output =
     bytesOf "block place bits\n" ++ pieces (λ i. line (i / width) (i % width) (toBits binary32 (getD output i nan))) (length output)
-
-unfoldable pub printedRefusal : ℕ → List ℕ
-printedRefusal number = bytesOf "refused\n" ++ (decimal number ++ (10 ∷ []))
 
 unfoldable pub printed : List ℕ → List ℕ → List ℕ
 printed file raw =
@@ -65,7 +54,7 @@ printed file raw =
 
 -- how many bytes there are at most: of a number and the byte after it, of a line, and of the names line
 abbrev pub numberBytes : ℕ
-numberBytes = 11
+numberBytes = steps32 + 2
 
 abbrev pub lineBytes : ℕ
 lineBytes = 3 * numberBytes

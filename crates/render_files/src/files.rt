@@ -13,9 +13,9 @@ ghost use Rattle.render_files.specs.Program.{samplesOf, most, printedOut
 use crate::print::LINE_BYTES;
 use crate::print::NAMES_BYTES;
 use crate::print::put_output;
-use crate::print::put_refusal;
 use crate::samples::read_samples;
 use limits::FILE_BYTES;
+use text_output::put_refusal;
 
 // The most whole samples, and the most samples of an output.
 const MOST: usize = 8192;

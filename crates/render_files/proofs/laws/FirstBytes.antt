@@ -12,8 +12,10 @@ use lib.Seq.{length-take-le, take-all}
 use Rattle.limits.specs.Limits.{fileBytes}
 use Rattle.scene_questions.specs.Questions.{sizeOk, firstNo, inputQuestions}
 use Rattle.scene_reader.specs.Answer.{also}
-use Rattle.render_files.specs.Program.{most, programAnswer, printedRefusal, printed, sceneBytes, sampleBytes, FirstOf, TextOf}
-use Rattle.render_files.proofs.laws.Program.{same-text, printed-refusal, many-samples}
+use Rattle.text_output.specs.Text.{printedRefusal}
+use Rattle.text_output.proofs.laws.Print.{same-text}
+use Rattle.render_files.specs.Program.{most, programAnswer, printed, sceneBytes, sampleBytes, FirstOf, TextOf}
+use Rattle.render_files.proofs.laws.Program.{printed-refusal, many-samples}
 
 -- ---- a file of more bytes than question 1 allows
 

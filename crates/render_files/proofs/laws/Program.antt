@@ -7,10 +7,9 @@ use native.Mathlib.Nat.{mul-le-mul}
 use native.Mathlib.Omega.{arith}
 use borrow.Author.Tests.{lt-leb, le-leb, ne-eqb}
 use lib.Dec.{eqb, leb}
-use lib.ListN.{length, take, drop, length-append, length-take}
-use lib.Seq.{length-take-le, take-at}
+use lib.ListN.{length, take, length-take}
+use lib.Seq.{take-at}
 use lib.Ieee.{Float, binary32, ofBits}
-use Rattle.laws.specs.Pieces.{begun}
 use Rattle.float_bits.specs.Bits.{wordFrom}
 use Rattle.laws.proofs.laws.Pieces.{length-elements}
 use Rattle.scene_file.specs.Grammar.{tablesOf}
@@ -28,18 +27,8 @@ use Rattle.scene_reader.proofs.laws.Also.{also-passed, input-in-order, also-in-
 use Rattle.scene_reader.proofs.laws.Answer.{answered-number, answered-scene}
 use Rattle.scene_reader.proofs.laws.Length.{accepted-input}
 use Rattle.room_desk.proofs.laws.Silence.{output-accepted}
-use Rattle.render_files.specs.Program.{samplesOf, most, programAnswer, printedOutput, printedRefusal, printed}
-
--- what is printed, by another name
-pub same-text : (l : List ℕ) {p q last : List ℕ} {r : ℕ} → p ≡ q → (r ≡ length p) × (last ≡ begun p l) → (r ≡ length q) × (last ≡ begun q l)
-same-text l {last = last} {r = r} e f = subst (λ (t : List ℕ). (r ≡ length t) × (last ≡ begun t l)) e f
-
--- what was put to the start of a buffer is within it
-pub begun-within : (p l : List ℕ) {last : List ℕ} {r : ℕ} → (r ≡ length p) × (last ≡ begun p l) → (r ≤ length last) × (r ≡ length (take r last))
-unfolding begun
-begun-within p l {last} {r} e =
-    let inside : r ≤ length last = omega (arith, e .0, ap length (e .1), length-append p (drop (length p) l)) in
-    (inside, sym (length-take-le r last inside))
+use Rattle.text_output.specs.Text.{printedRefusal}
+use Rattle.render_files.specs.Program.{samplesOf, most, programAnswer, printedOutput, printed}
 
 -- ---- parts that were lent and written, and are lent again
 

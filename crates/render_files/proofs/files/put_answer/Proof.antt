@@ -3,7 +3,8 @@ use mathlib.Core.Path.{refl}
 use native.Mathlib.Nat.{le-trans}
 use native.Mathlib.Omega.{arith}
 use borrow.Author.Needs.{needs}
-use Rattle.render_files.proofs.laws.Program.{same-text, printed-refusal, number-refused, scene-ok, answer-yes, long-output, short-output, width-least, width-most, frames-most, samples-most}
+use Rattle.text_output.proofs.laws.Print.{same-text}
+use Rattle.render_files.proofs.laws.Program.{printed-refusal, number-refused, scene-ok, answer-yes, long-output, short-output, width-least, width-most, frames-most, samples-most}
 use Rattle.render_files.proofs.files.put_answer.Statement.{statement}
 use Rattle.render_files.proofs.files.put_answer.Tie as tie
 

@@ -1,8 +1,9 @@
 -- `put_render` meets its contract: what is printed is what the scene renders to. Assumes nothing.
 use mathlib.Core.Path.{ap}
 use borrow.Author.Needs.{needs}
+use Rattle.text_output.proofs.laws.Print.{same-text}
 use Rattle.render_files.specs.Program.{printedOutput}
-use Rattle.render_files.proofs.laws.Program.{same-text, render-again}
+use Rattle.render_files.proofs.laws.Program.{render-again}
 use Rattle.render_files.proofs.files.put_render.Statement.{statement}
 use Rattle.render_files.proofs.files.put_render.Tie as tie
 

@@ -1,8 +1,9 @@
 -- `render_text` meets its contract: question 12 of the samples comes first. Assumes nothing.
 use native.Mathlib.Omega.{arith}
 use borrow.Author.Needs.{needs}
+use Rattle.text_output.proofs.laws.Print.{same-text, begun-within}
 use Rattle.render_files.specs.Program.{printed}
-use Rattle.render_files.proofs.laws.Program.{same-text, begun-within, printed-refusal, many-samples}
+use Rattle.render_files.proofs.laws.Program.{printed-refusal, many-samples}
 use Rattle.render_files.proofs.files.render_text.Statement.{statement}
 use Rattle.render_files.proofs.files.render_text.Tie as tie
 

@@ -8,8 +8,9 @@ use borrow.Author.Needs.{needs}
 use Rattle.laws.specs.Pieces.{pieces, putAt}
 use Rattle.laws.proofs.laws.Pieces.{pieces-zero, put-zero}
 use Rattle.scene_tables.specs.Bytes.{bytesOf}
+use Rattle.text_output.proofs.laws.Print.{put-piece}
 use Rattle.render_files.specs.Program.{line}
-use Rattle.render_files.proofs.laws.Print.{lineAt, lines-length, output-whole, put-piece}
+use Rattle.render_files.proofs.laws.Print.{lineAt, lines-length, output-whole}
 use Rattle.render_files.proofs.print.put_output.Statement.{statement}
 use Rattle.render_files.proofs.print.put_output.Tie as tie
 

@@ -2,10 +2,10 @@
 use borrow.Author.Needs.{needs}
 use mathlib.Core.List.{[], _∷_, _++_}
 use Rattle.scene_tables.specs.Bytes.{bytesOf}
-use Rattle.render_files.specs.Program.{decimal, printedRefusal}
-use Rattle.render_files.proofs.laws.Print.{begun-then}
-use Rattle.render_files.proofs.print.put_refusal.Statement.{statement}
-use Rattle.render_files.proofs.print.put_refusal.Tie as tie
+use Rattle.text_output.specs.Text.{decimal, printedRefusal, decimalWithin, steps32}
+use Rattle.text_output.proofs.laws.Print.{begun-then}
+use Rattle.text_output.proofs.put_refusal.Statement.{statement}
+use Rattle.text_output.proofs.put_refusal.Tie as tie
 
 slice-aggregate-put-text : tie.Need-slice-aggregate-put-text
 slice-aggregate-put-text c = search needs
@@ -20,10 +20,10 @@ same-length : tie.Need-same-length
 same-length c = search needs
 
 returns : tie.Need-returns
-unfolding printedRefusal bytesOf
+unfolding printedRefusal decimal bytesOf
 returns c =
     let args = c .before .before .before .before .before .before .before .before .before .before .args in
-    begun-then (bytesOf "refused\n") (decimal (args .number) ++ (10 ∷ [])) (args .text .now) (c .before .before .before .before .before .before .put-text .ensures) (c .before .before .put-number .ensures)
+    begun-then (bytesOf "refused\n") (decimalWithin steps32 (args .number) ++ (10 ∷ [])) (args .text .now) (c .before .before .before .before .before .before .put-text .ensures) (c .before .before .put-number .ensures)
 
 pub put-refusal-spec : {M : Type 1} → statement M
 put-refusal-spec =

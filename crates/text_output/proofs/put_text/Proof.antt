@@ -7,9 +7,9 @@ use lib.Seq.{take-all}
 use borrow.Author.Needs.{needs}
 use Rattle.laws.specs.Pieces.{putAt}
 use Rattle.laws.proofs.laws.Pieces.{put-nil}
-use Rattle.render_files.proofs.laws.Print.{put-element}
-use Rattle.render_files.proofs.print.put_text.Statement.{statement}
-use Rattle.render_files.proofs.print.put_text.Tie as tie
+use Rattle.text_output.proofs.laws.Print.{put-element}
+use Rattle.text_output.proofs.put_text.Statement.{statement}
+use Rattle.text_output.proofs.put_text.Tie as tie
 
 abbrev Inv-loop : tie.InvT-loop
 Inv-loop text₀ at piece i₀ text i = (i ≤ length piece) × (length text ≡ length text₀) × (text ≡ putAt at (take i piece) text₀)

@@ -8,14 +8,14 @@ use borrow.Author.Needs.{needs}
 use borrow.Fn.Kinds.{In}
 use borrow.Fn.PlainCycle.{Measures, is, falls, and}
 use Rattle.laws.specs.Pieces.{putAt}
-use Rattle.render_files.specs.Program.{decimalWithin}
-use Rattle.render_files.proofs.laws.Print.{put-one, put-last, decimal-zero, decimal-short, decimal-long, decimal-length}
-use Rattle.render_files.proofs.print.+put_decimal.{statement}
-use Rattle.render_files.proofs.print.+put_decimal.Tie.{close}
-use Rattle.render_files.proofs.print.put_decimal.Kinds as put-decimal-kinds
-use Rattle.render_files.proofs.print.put_decimal.Reads as put-decimal
-use Rattle.render_files.proofs.print.+put_decimal.Lts-put_decimal as put-decimal-lts
-use Rattle.render_files.proofs.print.digit.Reads as digit-reads
+use Rattle.text_output.specs.Text.{decimalWithin}
+use Rattle.text_output.proofs.laws.Print.{put-one, put-last, decimal-zero, decimal-short, decimal-long, decimal-length}
+use Rattle.text_output.proofs.+put_decimal.{statement}
+use Rattle.text_output.proofs.+put_decimal.Tie.{close}
+use Rattle.text_output.proofs.put_decimal.Kinds as put-decimal-kinds
+use Rattle.text_output.proofs.put_decimal.Reads as put-decimal
+use Rattle.text_output.proofs.+put_decimal.Lts-put_decimal as put-decimal-lts
+use Rattle.text_output.proofs.digit.Reads as digit-reads
 
 abbrev μ-put-decimal : Measures 1 put-decimal-kinds.ps ℕ
 μ-put-decimal κs a = a .1 .1 .0
