@@ -1,0 +1,4 @@
+pub mod Peaks
+pub mod Range
+pub mod Totals
+pub mod Words
