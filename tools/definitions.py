@@ -20,6 +20,7 @@ ROUTINES = {
     "decibels": ["Decibels::as_amplitude", "room_desk_amplitude"],
     "room_desk": ["render", "room_desk_render"],
     "render_files": ["render_text"],
+    "month_files": ["month_text"],
     "wave": ["room_desk_wave_info", "room_desk_wave_read", "room_desk_wave_write", "room_desk_wave_length"],
 }
 # the theorems that stand beside the contracts
@@ -35,6 +36,13 @@ THEOREMS = [
     ("pcm", "minus-multiple"),
     ("wave", "minus-zero-lost"),
     ("wave", "one-lost"),
+    ("month", "totals-add"),
+    ("month", "totals-fit"),
+    ("month_reader", "broken-stays"),
+    ("month_files", "first-lines"),
+    ("month_files", "lines-refused"),
+    ("month_files", "month-printed"),
+    ("month_files", "cut-anywhere"),
     ("test_examples", "examples-agree"),
     ("test_alike_pairs", "all-alike"),
     ("test_alike_pairs", "no-control"),

@@ -1,0 +1,6 @@
+pub mod Lines
+pub mod Head
+pub mod Text
+pub mod Month
+pub mod Cut
+pub mod Read

@@ -1,0 +1,5 @@
+pub mod Lines
+pub mod Text
+pub mod Month
+pub mod Cut
+pub mod Read
