@@ -24,6 +24,8 @@ TESTS = [
     ("noninterference", "first-fits"),
     ("noninterference", "second-fits"),
     ("noninterference", "left-example"),
+    ("pause_end", "once"),
+    ("pause_end", "uneven-late"),
 ]
 
 

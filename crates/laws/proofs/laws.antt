@@ -13,6 +13,7 @@ pub mod FloatBounds
 pub mod FloatOrder
 pub mod FloatRound
 pub mod FloatLiteral
+pub mod Grains
 pub mod Amount
 pub mod Interpolate
 pub mod DecibelRange

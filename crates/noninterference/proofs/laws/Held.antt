@@ -41,7 +41,7 @@ unfolding kindNumber
 pauses-not k p q = let z : _≡_ {A = ℕ} 4 5 = sym (ap kindNumber p) ∙ ap kindNumber q in omega arith
 
 -- orders change no array's length
-ordered-length : (k : OrderKind) (o : OrderLine) (m : Mixer) → length (orderedBy k o m .tracks) ≡ length (m .tracks)
+pub ordered-length : (k : OrderKind) (o : OrderLine) (m : Mixer) → length (orderedBy k o m .tracks) ≡ length (m .tracks)
 unfolding orderedBy mapTrack mapSend mapRoute mapMain
 ordered-length MainVolume o m = refl
 ordered-length TrackVolume o m = length-set (m .tracks) (o .index - 1) (trackSet (stateOf (m .tracks) (o .index - 1)) (o .target) (tweenOf o))
@@ -51,7 +51,7 @@ ordered-length Pause o m = length-set (m .tracks) (o .index - 1) (trackPause (st
 ordered-length Resume o m = refl
 
 -- a track that an order names
-line-changed : (t : ℕ) (f : Track → Track) (m : Mixer) → t < length (m .tracks) → stateAt (mapTrack (suc t) f m) t ≡ f (stateAt m t)
+pub line-changed : (t : ℕ) (f : Track → Track) (m : Mixer) → t < length (m .tracks) → stateAt (mapTrack (suc t) f m) t ≡ f (stateAt m t)
 unfolding mapTrack
 line-changed t f m b =
     ap (λ (k : ℕ). stateOf (set (m .tracks) k (f (stateOf (m .tracks) k))) t) (line-of t) ∙ getD-set-same (m .tracks) t (f (stateOf (m .tracks) t)) absentTrack b

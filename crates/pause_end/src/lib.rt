@@ -1,0 +1,1 @@
+// When a pause is over; see specs/ and proofs/laws/. There is no code here.
