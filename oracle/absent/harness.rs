@@ -74,6 +74,22 @@ impl Show {
 		}
 	}
 
+	/// Renders the show chunk by chunk: the tracks' states in line order, once
+	/// updated in each chunk, by kira's numbers.
+	pub fn states(&mut self) -> Vec<u32> {
+		let (channels, mut states) = (self.scene.head.channels, vec![]);
+		for block in 0..self.scene.head.blocks {
+			self.write_orders(block);
+			self.renderer.on_start_processing();
+			let mut out = vec![0.0; self.scene.head.block * channels];
+			for chunk in out.chunks_mut(self.scene.head.buffer * channels) {
+				self.renderer.process(chunk, channels as u16);
+				states.extend(self.tracks.iter().map(|track| track.state() as u32));
+			}
+		}
+		states
+	}
+
 	fn add_clocks(&mut self) {
 		for line in &self.scene.clocks {
 			let controller = &mut self.controllers.clock_controller;

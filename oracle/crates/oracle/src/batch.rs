@@ -7,33 +7,52 @@
 //!
 //! An answer is two u32 numbers and the output's bits: the number, how many
 //! samples follow, and they. The library's buffer is answered whole as it
-//! stands after the call, on refusal too; it holds `BEFORE` at entry.
+//! stands after the call, on refusal too; it holds `BEFORE` at entry. Of
+//! states, the tracks' numbers stand in the samples' place.
 
 use std::io::{self, ErrorKind, Read, Write};
 
 /// 785.0666: finite, and never a sample of an output.
 const BEFORE: u32 = 0x4444_4444;
 
-struct Case {
+pub struct Case {
 	library: bool,
 	file: Vec<u8>,
 	samples: Vec<u8>,
 	output: usize,
 }
 
-pub fn run(input: &mut impl Read, output: &mut impl Write) -> io::Result<()> {
+pub fn run(
+	answer: impl Fn(&Case) -> (u32, Vec<u32>),
+	input: &mut impl Read,
+	output: &mut impl Write,
+) -> io::Result<()> {
 	while let Some(case) = read_case(input)? {
-		let (number, samples) = answer(&case);
+		let (number, answers) = answer(&case);
 		write_number(output, number)?;
-		write_number(output, samples.len() as u32)?;
-		for sample in samples {
-			write_number(output, sample.to_bits())?;
+		write_number(output, answers.len() as u32)?;
+		for answer in answers {
+			write_number(output, answer)?;
 		}
 	}
 	output.flush()
 }
 
-fn answer(case: &Case) -> (u32, Vec<f32>) {
+/// The output's bits.
+pub fn rendered(case: &Case) -> (u32, Vec<u32>) {
+	let (number, samples) = render(case);
+	(number, samples.into_iter().map(f32::to_bits).collect())
+}
+
+/// The tracks' states, chunk by chunk.
+pub fn states(case: &Case) -> (u32, Vec<u32>) {
+	match oracle::states(&case.file, &oracle::whole_samples(&case.samples)) {
+		Ok(states) => (0, states),
+		Err(number) => (number, vec![]),
+	}
+}
+
+fn render(case: &Case) -> (u32, Vec<f32>) {
 	if case.library {
 		let mut buffer = vec![f32::from_bits(BEFORE); case.output];
 		let samples = oracle::whole_samples(&case.samples);

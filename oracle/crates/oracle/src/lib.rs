@@ -52,6 +52,13 @@ pub fn rendered(scene: &Scene, samples: &[f32]) -> Vec<f32> {
 	output
 }
 
+/// The tracks' states in line order, chunk by chunk.
+pub fn states(file: &[u8], samples: &[f32]) -> Result<Vec<u32>, Refusal> {
+	let scene = accepted(file)?;
+	sample_questions(&scene, samples, false)?;
+	Ok(Show::new(&scene, samples).states())
+}
+
 /// What the render program prints.
 pub fn printed(answer: &Result<(Scene, Vec<f32>), Refusal>) -> String {
 	match answer {

@@ -15,6 +15,7 @@ const USAGE: &str = "usage: oracle render [FOLDER]        what the render progra
        oracle raw FOLDER FILE       the library's output, as raw samples, of any length
        oracle folders FOLDER        writes output.txt into each folder below
        oracle batch                 answers cases from standard input
+       oracle states                the tracks' states in each chunk, of such cases
        oracle leaf                  answers lines from standard input";
 
 fn main() -> ExitCode {
@@ -27,6 +28,12 @@ fn main() -> ExitCode {
 		["raw", folder, file] => raw(Path::new(folder), Path::new(file)),
 		["folders", folder] => folders(Path::new(folder)),
 		["batch"] => batch::run(
+			batch::rendered,
+			&mut io::stdin().lock(),
+			&mut BufWriter::new(io::stdout().lock()),
+		),
+		["states"] => batch::run(
+			batch::states,
 			&mut io::stdin().lock(),
 			&mut BufWriter::new(io::stdout().lock()),
 		),
