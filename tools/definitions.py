@@ -34,6 +34,7 @@ THEOREMS = [
     ("pause_end", "pause-over"),
     ("pause_end", "pause-state"),
     ("pause_end", "pause-advances"),
+    ("pause_end", "pause-ends"),
     ("pause_end", "c-too-early"),
     ("render_files", "first-bytes"),
     ("pcm", "plus-multiple"),

@@ -130,16 +130,20 @@ module _ {s : Scene} {t i : ℕ} (ok : SceneOk s) (once : PausedOnce s t i) {n b
       is-true (over dt millis (fadeChunks h millis + 1))
       (fade-over (h .rate) (h .buffer) (ok .rate .0) (ok .rate .1) (ok .buffer .0) (ok .buffer .1) (fadeChunks h millis) millis (fewer (fadeChunks h millis + 1) late) (fade-covered h millis (ok .buffer .0)))
 
-  paused-now : lastChunk s i ≤ n → stateIn s t b k ≡ Paused
-  unfolding lastChunk
-  paused-now late = state-ended ∙ ap (λ (x : Bool). cond x Paused Pausing) (ended-since (over dt millis) n (fadeChunks h millis + 1) (omega arith) (omega (arith, late)) (over-last (omega (arith, late))))
+  -- it stays over
+  paused-since : (a : ℕ) → 1 ≤ a → a ≤ n → over dt millis a ≡ true → stateIn s t b k ≡ Paused
+  paused-since a some late e = state-ended ∙ ap (λ (x : Bool). cond x Paused Pausing) (ended-since (over dt millis) n a some late e)
 
-  paused-in : (samples : List Float) → lastChunk s i ≤ n → PausedIn s samples t b k
+  paused-last : lastChunk s i ≤ n → stateIn s t b k ≡ Paused
+  unfolding lastChunk
+  paused-last late = paused-since (fadeChunks h millis + 1) (omega arith) (omega (arith, late)) (over-last (omega (arith, late)))
+
+  paused-in : (samples : List Float) → stateIn s t b k ≡ Paused → PausedIn s samples t b k
   unfolding isAdvancing
-  paused-in samples late =
-      let still : trackRow (chunkIn s b k) t .advancing ≡ false = advancing-is ∙ ap isAdvancing (paused-now late) in
+  paused-in samples paused =
+      let still : trackRow (chunkIn s b k) t .advancing ≡ false = advancing-is ∙ ap isAdvancing paused in
       record {
-        state = paused-now late;
+        state = paused;
         frames = λ j. still-frame trackDepth (chunkIn s b k) samples (suc t) j (ap (λ (x : ℕ). trackRow (chunkIn s b k) x .advancing) (line-of t) ∙ still);
       }
 
@@ -148,15 +152,26 @@ module _ {s : Scene} {t i : ℕ} (ok : SceneOk s) (once : PausedOnce s t i) {n b
 -- from chunk c + 1 on, counted from the order, the track is paused and all its frames are zero
 pub pause-over : (file : List ℕ) (samples : List Float) (output : ℕ) → answer file samples output ≡ 0 → (t i : ℕ) → PausedOnce (sceneOf (tablesOf file)) t i
     → (n b k : ℕ) → ChunkSince (sceneOf (tablesOf file)) i n b k → lastChunk (sceneOf (tablesOf file)) i ≤ n → PausedIn (sceneOf (tablesOf file)) samples t b k
-pause-over file samples output e t i once n b k at late = paused-in (accepted-ok file samples output e) once at samples late
+pause-over file samples output e t i once n b k at late =
+    let ok = accepted-ok file samples output e in
+    paused-in ok once at samples (paused-last ok once at late)
 
 -- in chunk n it is paused where the sum of n chunk lengths has reached the fade's length, and until then it fades
 pub pause-state : (file : List ℕ) (samples : List Float) (output : ℕ) → answer file samples output ≡ 0 → (t i : ℕ) → PausedOnce (sceneOf (tablesOf file)) t i
     → (n b k : ℕ) → ChunkSince (sceneOf (tablesOf file)) i n b k → stateIn (sceneOf (tablesOf file)) t b k ≡ fadeState (sceneOf (tablesOf file) .head) (orderLine (sceneOf (tablesOf file)) i .millis) n
 pause-state file samples output e t i once n b k at = state-now (accepted-ok file samples output e) once at
 
--- and so it advances in every chunk in which the sum has not reached it
+-- and so it advances in every chunk in which the sum has not reached it,
 pub pause-advances : (file : List ℕ) (samples : List Float) (output : ℕ) → answer file samples output ≡ 0 → (t i : ℕ) → PausedOnce (sceneOf (tablesOf file)) t i
     → (n b k : ℕ) → ChunkSince (sceneOf (tablesOf file)) i n b k
     → trackRow (chunkIn (sceneOf (tablesOf file)) b k) t .advancing ≡ not (reached (sceneOf (tablesOf file) .head) (orderLine (sceneOf (tablesOf file)) i .millis) n)
 pause-advances file samples output e t i once n b k at = advancing-now (accepted-ok file samples output e) once at
+
+-- and from the first chunk a in which it has, the track is paused and all its frames are zero
+pub pause-ends : (file : List ℕ) (samples : List Float) (output : ℕ) → answer file samples output ≡ 0 → (t i : ℕ) → PausedOnce (sceneOf (tablesOf file)) t i
+    → (a : ℕ) → 1 ≤ a → reached (sceneOf (tablesOf file) .head) (orderLine (sceneOf (tablesOf file)) i .millis) a ≡ true
+    → (n b k : ℕ) → ChunkSince (sceneOf (tablesOf file)) i n b k → a ≤ n → PausedIn (sceneOf (tablesOf file)) samples t b k
+unfolding reached elapsed
+pause-ends file samples output e t i once a some full n b k at late =
+    let ok = accepted-ok file samples output e in
+    paused-in ok once at samples (paused-since ok once at a some late full)
