@@ -3,3 +3,4 @@ pub mod Sixteen
 pub mod Signed
 pub mod Encodings
 pub mod Back
+pub mod Whole

@@ -1,9 +1,9 @@
 -- Samples as they are stored: 16-bit whole numbers in two's complement, and 32-bit floats by their bits.
 use mathlib.Core.Path.{_≡_}
-use mathlib.Core.Bool.{true, false, cond}
+use mathlib.Core.Bool.{Bool, true, false, cond}
 use mathlib.Core.List.{List}
 use Prim.Native.Nat.{ℕ, suc, _+_, _-_, _*_, _<_, min}
-use lib.Dec.{T, ltb}
+use lib.Dec.{T, eqb, ltb}
 use lib.IntN.{ℤ, pos, negsuc, negℤ}
 use lib.Ieee.{Float, nan, inf, fin, binary32, up, down, div, le, neg, ofInt, ofBits, toBits}
 use Rattle.rounding.specs.Nearest.{nearestQuotient}
@@ -42,6 +42,10 @@ nearest16 (fin true m e) = negℤ (pos (min (nearestQuotient (m * up e * 32768) 
 abbrev pub In16 : ℤ → Type 0
 In16 (pos n) = n < 32768
 In16 (negsuc n) = n < 32768
+
+-- Whether x is v / 32768 for a whole number v of 16 bits: whether it has the bits of the one that is nearest. Neither -0.0 nor 1.0 has.
+unfoldable pub whole16 : Float → Bool
+whole16 x = eqb (toBits binary32 (sampleOf16 (nearest16 x))) (toBits binary32 x)
 
 -- v + 32768, which is not negative.
 unfoldable pub raised16 : ℤ → ℕ

@@ -3,5 +3,6 @@ mod sample;
 
 pub use sample::Encoding;
 pub use sample::distance_16;
+pub use sample::is_whole_16;
 pub use sample::put_sample;
 pub use sample::sample_at;

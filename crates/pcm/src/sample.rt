@@ -6,7 +6,7 @@ ghost use lib.ListN.{length};
 ghost use Rattle.laws.specs.Pieces.{putAt};
 ghost use Rattle.pcm.specs.declared.sample.Encoding.the-variants.{Pcm16, Float32};
 ghost use Rattle.byte_order.specs.Bytes.{bytesOf};
-ghost use Rattle.pcm.specs.Sample.{InRange, raised16, nearest16, width, sampleOf, patternOf, sampleAt};
+ghost use Rattle.pcm.specs.Sample.{InRange, raised16, nearest16, whole16, width, sampleOf, patternOf, sampleAt};
 use byte_order::ByteOrder;
 use byte_order::number2_at;
 use byte_order::number4_at;
@@ -72,6 +72,27 @@ fn pattern_16(x: f32) -> u32
     ensures { λ r. ⌜ r ≡ patternOf Pcm16 x ⌝ }
 {
     (raised_16(x) + HALF) % VALUES
+}
+
+fn nearest_is(x: f32) -> bool
+    requires { ⌜ InRange x ⌝ }
+    ensures { λ r. ⌜ r ≡ whole16 x ⌝ }
+{
+    let y = sample_16(pattern_16(x));
+    float_bits::f32_bits(y) == float_bits::f32_bits(x)
+}
+
+// Whether 16 bits hold a sample: -0.0 and 1.0 they don't.
+pub fn is_whole_16(x: f32) -> bool
+    ensures { λ r. ⌜ r ≡ whole16 x ⌝ }
+{
+    if -1.0 <= x {
+        if x <= 1.0 {
+            return nearest_is(x);
+        }
+        return false;
+    }
+    false
 }
 
 fn pattern_32(x: f32) -> u32

@@ -1,3 +1,4 @@
 pub mod Frames
 pub mod Written
 pub mod Back
+pub mod Values

@@ -5,6 +5,7 @@ use Prim.Native.Nat.{ℕ, _*_}
 use lib.Dec.{eqb}
 use lib.ListN.{length}
 use lib.Ieee.{Float}
+use Rattle.byte_order.specs.declared.bytes.ByteOrder.{ByteOrder}
 use Rattle.byte_order.specs.declared.bytes.ByteOrder.the-variants.{Little}
 use Rattle.pcm.specs.declared.sample.Encoding.{Encoding}
 use Rattle.pcm.specs.declared.sample.Encoding.the-variants.{Pcm16, Float32}
@@ -30,18 +31,18 @@ infoFrom (Refused number) rate channels bits frames = held number rate channels 
 unfoldable pub infoOf : List ℕ → ℕ → ℕ → ℕ → ℕ → Info
 infoOf file rate channels bits frames = infoFrom (soundIn file) rate channels bits frames
 
--- ---- read: the number, the samples, the rate. 10 is a sample buffer of another length than the frames need.
+-- ---- read: the number, the samples, the rate, of a file in either byte order. 10 is a sample buffer of another length than the frames need.
 
 pub data Reading : Type 0 where
   reading : ℕ → List Float → ℕ → Reading
 
-unfoldable pub samplesOf : List ℕ → Sound → List Float
-samplesOf file sound = samplesIn (sound .encoding) Little (sound .channels) file (sound .start) (sound .frames)
+unfoldable pub samplesOf : ByteOrder → List ℕ → Sound → List Float
+samplesOf order file sound = samplesIn (sound .encoding) order (sound .channels) file (sound .start) (sound .frames)
 
-unfoldable pub readFrom : Found → List ℕ → List Float → ℕ → Reading
-readFrom (Holds sound) file samples rate =
-    cond (eqb (length samples) (sound .frames * 2)) (reading 0 (samplesOf file sound) (sound .rate)) (reading 10 samples rate)
-readFrom (Refused number) file samples rate = reading number samples rate
+unfoldable pub readFrom : ByteOrder → Found → List ℕ → List Float → ℕ → Reading
+readFrom order (Holds sound) file samples rate =
+    cond (eqb (length samples) (sound .frames * 2)) (reading 0 (samplesOf order file sound) (sound .rate)) (reading 10 samples rate)
+readFrom order (Refused number) file samples rate = reading number samples rate
 
 unfoldable pub readOf : List ℕ → List Float → ℕ → Reading
-readOf file samples rate = readFrom (soundIn file) file samples rate
+readOf file samples rate = readFrom Little (soundIn file) file samples rate

@@ -1,6 +1,9 @@
 // What a file in hand is, and its samples.
 ghost use mathlib.Core.Path.{_≡_};
-ghost use Rattle.wave_reader.specs.Read.{bitsOf, held, infoOf, reading, readOf};
+ghost use Rattle.wave_sound.specs.declared.sound.Sound.{Sound};
+ghost use Rattle.wave_sound.specs.declared.sound.Found.the-variants.{Holds};
+ghost use Rattle.wave_sound.specs.Sound.{Inside};
+ghost use Rattle.wave_reader.specs.Read.{bitsOf, held, infoOf, reading, readFrom, readOf};
 use byte_order::ByteOrder;
 use pcm::Encoding;
 use sound_data::read_samples;
@@ -40,11 +43,19 @@ pub fn info(
     }
 }
 
-// Answers 0 and writes all samples and the rate, or answers the number of the refusal and writes nothing.
-pub fn read(file: &[u8], samples: &mut [f32], rate: &mut u32) -> u32
-    ensures { λ r. ⌜ reading r (now (samples .exit)) (now (rate .exit)) ≡ readOf (now (file .entry)) (now (samples .entry)) (now (rate .entry)) ⌝ }
+// Of a file that holds a sound, or not, and whose data have a byte order.
+pub fn read_found(
+    found: Found,
+    order: ByteOrder,
+    file: &[u8],
+    samples: &mut [f32],
+    rate: &mut u32,
+) -> u32
+    requires { ⌜ ((sound : Sound) → found ≡ Holds sound → Inside (now file) sound) ⌝ }
+    ensures { λ r. ⌜ reading r (now (samples .exit)) (now (rate .exit))
+        ≡ readFrom order found (now (file .entry)) (now (samples .entry)) (now (rate .entry)) ⌝ }
 {
-    match sound_in(file) {
+    match found {
         Found::Holds(sound) => {
             let encoding = sound.encoding;
             let frames = sound.frames as usize;
@@ -53,10 +64,17 @@ pub fn read(file: &[u8], samples: &mut [f32], rate: &mut u32) -> u32
             if samples.len() != frames * 2 {
                 return 10;
             }
-            read_samples(file, start, channels, encoding, ByteOrder::Little, samples);
+            read_samples(file, start, channels, encoding, order, samples);
             *rate = sound.rate;
             0
         }
         Found::Refused(number) => number,
     }
+}
+
+// Answers 0 and writes all samples and the rate, or answers the number of the refusal and writes nothing.
+pub fn read(file: &[u8], samples: &mut [f32], rate: &mut u32) -> u32
+    ensures { λ r. ⌜ reading r (now (samples .exit)) (now (rate .exit)) ≡ readOf (now (file .entry)) (now (samples .entry)) (now (rate .entry)) ⌝ }
+{
+    read_found(sound_in(file), ByteOrder::Little, file, samples, rate)
 }

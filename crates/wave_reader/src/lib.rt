@@ -3,3 +3,4 @@ mod file;
 
 pub use file::info;
 pub use file::read;
+pub use file::read_found;

@@ -1,8 +1,11 @@
 -- What a WAVE file holds, or the number of its refusal.
+use mathlib.Core.Path.{_≡_}
+use mathlib.Core.Logic.{_⊎_}
 use mathlib.Core.Bool.{Bool, cond, not, _&&_}
 use mathlib.Core.List.{List}
-use Prim.Native.Nat.{ℕ, _+_, _*_, _/_, _%_}
+use Prim.Native.Nat.{ℕ, _+_, _*_, _/_, _%_, _≤_}
 use lib.Dec.{eqb, leb}
+use lib.ListN.{length}
 use Rattle.byte_order.specs.declared.bytes.ByteOrder.the-variants.{Little}
 use Rattle.byte_order.specs.Bytes.{numberAt}
 use Rattle.iff_chunks.specs.declared.form.Chunks.{Chunks}
@@ -10,6 +13,7 @@ use Rattle.iff_chunks.specs.Chunks.{identifier, sizeAt, isForm, walkOf}
 use Rattle.pcm.specs.declared.sample.Encoding.{Encoding}
 use Rattle.pcm.specs.declared.sample.Encoding.the-variants.{Pcm16, Float32}
 use Rattle.pcm.specs.Sample.{width}
+use Rattle.wave_sound.specs.declared.sound.Sound.{Sound}
 use Rattle.wave_sound.specs.declared.sound.Found.{Found}
 use Rattle.wave_sound.specs.declared.sound.Found.the-variants.{Holds, Refused}
 use Rattle.wave_sound.specs.declared.sound.Kind.{Kind}
@@ -31,9 +35,18 @@ dataChunk = identifier "data"
 unfoldable pub channelsOk : ℕ → Bool
 channelsOk channels = leb 1 channels && leb channels 2
 
+-- 8000 Hz to 192000 Hz.
+unfoldable pub rateOk : ℕ → Bool
+rateOk rate = leb 8000 rate && leb rate 192000
+
 -- A sample kind that we read, by its number in the format chunk and the bits of a sample.
 unfoldable pub kindOf : ℕ → ℕ → Kind
 kindOf tag bits = cond (eqb tag 1 && eqb bits 16) (Known Pcm16) (cond (eqb tag 3 && eqb bits 32) (Known Float32) Other)
+
+-- What is known of a sound that a file holds: one channel or two, and its frames are in the file.
+pub record Inside (file : List ℕ) (sound : Sound) : Type 0 where
+  pub sides : (sound .channels ≡ 1) ⊎ (sound .channels ≡ 2)
+  pub room : sound .start + sound .frames * sound .channels * width (sound .encoding) ≤ length file
 
 -- 14 and 15, of data of so many bytes that begin at a place: do they end with a frame, and are their channels one or two?
 unfoldable pub soundOf : Encoding → ℕ → ℕ → ℕ → ℕ → Found

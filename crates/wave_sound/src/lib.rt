@@ -12,4 +12,5 @@ pub use sound::RIFF;
 pub use sound::Sound;
 pub use sound::WAVE;
 pub use sound::channels_ok;
+pub use sound::rate_ok;
 pub use sound::sound_in;

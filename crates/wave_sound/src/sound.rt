@@ -5,7 +5,7 @@ ghost use Prim.Native.Nat.{_+_, _<_, _≤_};
 ghost use lib.ListN.{length};
 ghost use Rattle.byte_order.specs.declared.bytes.ByteOrder.the-variants.{Little};
 ghost use Rattle.iff_chunks.specs.Chunks.{sizeAt};
-ghost use Rattle.wave_sound.specs.Sound.{channelsOk, kindOf, soundOf, soundAt, hasChunks, soundIn};
+ghost use Rattle.wave_sound.specs.Sound.{channelsOk, rateOk, kindOf, soundOf, soundAt, hasChunks, soundIn};
 use byte_order::ByteOrder;
 use byte_order::number2_at;
 use byte_order::number4_at;
@@ -55,6 +55,15 @@ pub fn channels_ok(channels: u32) -> bool
         return false;
     }
     channels <= 2
+}
+
+pub fn rate_ok(rate: u32) -> bool
+    ensures { λ r. ⌜ r ≡ rateOk rate ⌝ }
+{
+    if rate < 8000 {
+        return false;
+    }
+    rate <= 192000
 }
 
 fn kind_of(tag: u32, bits: u32) -> Kind

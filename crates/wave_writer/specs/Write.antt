@@ -1,6 +1,5 @@
 -- What the writer answers, and the file that it leaves. A refusal leaves the file as it was.
-use mathlib.Core.Path.{_≡_}
-use mathlib.Core.Bool.{Bool, true, cond, _&&_}
+use mathlib.Core.Bool.{Bool, cond, _&&_}
 use mathlib.Core.List.{List, _++_}
 use Prim.Native.Nat.{ℕ, _+_, _*_, _/_, _%_}
 use lib.Dec.{eqb, leb}
@@ -15,7 +14,7 @@ use Rattle.scene_questions.specs.Questions.{samplesOk}
 use Rattle.sound_data.specs.Data.{dataOf}
 use Rattle.wave_sound.specs.declared.sound.Kind.{Kind}
 use Rattle.wave_sound.specs.declared.sound.Kind.the-variants.{Known, Other}
-use Rattle.wave_sound.specs.Sound.{riff, wave, formatChunk, dataChunk, channelsOk}
+use Rattle.wave_sound.specs.Sound.{riff, wave, formatChunk, dataChunk, channelsOk, rateOk}
 
 -- ---- the file
 
@@ -40,6 +39,9 @@ unfoldable pub dataHeaderOf : ℕ → List ℕ
 dataHeaderOf size = bytesOf Big 4 dataChunk ++ bytesOf Little 4 size
 
 -- 44 bytes
+abbrev pub headLength : ℕ
+headLength = 44
+
 unfoldable pub headOf : ℕ → ℕ → Encoding → ℕ → List ℕ
 headOf rate channels encoding size = riffOf size ++ (formatStart channels encoding ++ (formatRest rate (channels * width encoding) (width encoding * 8) ++ dataHeaderOf size))
 
@@ -55,51 +57,53 @@ fileOf rate channels encoding samples = headOf rate channels encoding (dataLengt
 pub data Writing : Type 0 where
   writing : ℕ → List ℕ → Writing
 
-unfoldable pub rateOk : ℕ → Bool
-rateOk rate = leb 8000 rate && leb rate 192000
+-- The most bytes of a file: the size of all but the first 8 has 32 bits.
+abbrev pub fileMost : ℕ
+fileMost = 8 + 4294967295
 
--- 10: the file buffer's length is the file's, and RIFF's size has 32 bits.
-unfoldable pub lengthOk : ℕ → ℕ → Bool
-lengthOk size room = leb (36 + size) 4294967295 && eqb room (44 + size)
+-- 10: the file buffer's length is the file's, which has `head` bytes in front of its data.
+unfoldable pub lengthOk : ℕ → ℕ → ℕ → Bool
+lengthOk head size room = leb (head + size) fileMost && eqb room (head + size)
 
--- 8, 9 and 10
-unfoldable pub writeKnown : ℕ → ℕ → Encoding → List Float → List ℕ → Writing
-writeKnown rate channels encoding samples file =
-    cond (eqb (length samples % 2) 0)
+-- 4, 15, 8, 9 and 10, of such a file; 0 where nothing is refused.
+unfoldable pub asked : ℕ → ℕ → ℕ → Encoding → List Float → ℕ → ℕ
+asked head rate channels encoding samples room =
+    cond (rateOk rate)
+    (cond (channelsOk channels)
+    (cond (eqb (length samples % 2) 0)
     (cond (samplesOk samples)
-    (cond (lengthOk (dataLength (length samples) channels encoding) (length file)) (writing 0 (fileOf rate channels encoding samples)) (writing 10 file))
-    (writing 9 file))
-    (writing 8 file)
+    (cond (lengthOk head (dataLength (length samples) channels encoding) room) 0 10)
+    9)
+    8)
+    15)
+    4
 
--- What is asked before a file of `size` data bytes is written into a buffer of `room` bytes.
-pub record Writable (rate channels : ℕ) (encoding : Encoding) (samples : List Float) (size room : ℕ) : Type 0 where
-  pub rated : rateOk rate ≡ true
-  pub sided : channelsOk channels ≡ true
-  pub even : length samples % 2 ≡ 0
-  pub inRange : samplesOk samples ≡ true
-  pub sized : size ≡ dataLength (length samples) channels encoding
-  pub roomy : lengthOk size room ≡ true
+-- The file is written where nothing is refused.
+unfoldable pub answered : ℕ → List ℕ → List ℕ → Writing
+answered number written file = cond (eqb number 0) (writing 0 written) (writing number file)
 
 -- 16 bits are whole numbers, 32 are floats.
 unfoldable pub kindOfBits : ℕ → Kind
 kindOfBits bits = cond (eqb bits 16) (Known Pcm16) (cond (eqb bits 32) (Known Float32) Other)
 
--- 15, of the bits
+-- 4, then 15, of the bits
 unfoldable pub writeKind : Kind → ℕ → ℕ → List Float → List ℕ → Writing
-writeKind (Known encoding) rate channels samples file = writeKnown rate channels encoding samples file
-writeKind Other rate channels samples file = writing 15 file
+writeKind (Known encoding) rate channels samples file =
+    answered (asked headLength rate channels encoding samples (length file)) (fileOf rate channels encoding samples) file
+writeKind Other rate channels samples file = writing (cond (rateOk rate) 15 4) file
 
--- 4, then 15
 unfoldable pub writeOf : ℕ → ℕ → ℕ → List Float → List ℕ → Writing
-writeOf rate channels bits samples file =
-    cond (rateOk rate) (cond (channelsOk channels) (writeKind (kindOfBits bits) rate channels samples file) (writing 15 file)) (writing 4 file)
+writeOf rate channels bits samples file = writeKind (kindOfBits bits) rate channels samples file
 
 -- ---- the length that the file of so many samples needs, 0 where there is none
 
-unfoldable pub lengthKnown : Kind → ℕ → ℕ → ℕ
-lengthKnown (Known encoding) samples channels =
+unfoldable pub lengthWith : ℕ → ℕ → ℕ → Encoding → ℕ
+lengthWith head samples channels encoding =
     let size = dataLength samples channels encoding in
-    cond (channelsOk channels) (cond (leb (36 + size) 4294967295) (44 + size) 0) 0
+    cond (channelsOk channels) (cond (leb (head + size) fileMost) (head + size) 0) 0
+
+unfoldable pub lengthKnown : Kind → ℕ → ℕ → ℕ
+lengthKnown (Known encoding) samples channels = lengthWith headLength samples channels encoding
 lengthKnown Other samples channels = 0
 
 unfoldable pub lengthFor : ℕ → ℕ → ℕ → ℕ

@@ -76,14 +76,23 @@ module _ (order : ByteOrder) (a b : ℕ) (file : List ℕ) where
   there p n (inl e) = absurd (n e)
   there p n (inr h) = h
 
-  pub first-header : (walkOf order a b file .first ≡ 0 → ⊥) → walkOf order a b file .first + 8 ≤ length file
-  unfolding walkOf
-  first-header n = there _ n (headers (length file) 12 0 0 (inl refl) (inl refl) .0)
+  module _ (chunks : Chunks) (walked : chunks ≡ walkOf order a b file) where
+    all-headers : Headers chunks
+    unfolding walkOf
+    all-headers = subst Headers (sym walked) (headers (length file) 12 0 0 (inl refl) (inl refl))
 
-  pub first-body : (walkOf order a b file .first ≡ 0 → ⊥) → walkOf order a b file .whole ≡ true → walkOf order a b file .first + 8 + sizeAt order file (walkOf order a b file .first) ≤ length file
-  unfolding walkOf
-  first-body n w = there _ n (bodies (length file) 12 0 0 (inl refl) (inl refl) w .0)
+    all-bodies : Bodies chunks
+    unfolding walkOf
+    all-bodies = subst Bodies (sym walked) (bodies (length file) 12 0 0 (inl refl) (inl refl))
 
-  pub second-body : (walkOf order a b file .second ≡ 0 → ⊥) → walkOf order a b file .whole ≡ true → walkOf order a b file .second + 8 + sizeAt order file (walkOf order a b file .second) ≤ length file
-  unfolding walkOf
-  second-body n w = there _ n (bodies (length file) 12 0 0 (inl refl) (inl refl) w .1)
+    pub first-header : (chunks .first ≡ 0 → ⊥) → chunks .first + 8 ≤ length file
+    first-header n = there _ n (all-headers .0)
+
+    pub second-header : (chunks .second ≡ 0 → ⊥) → chunks .second + 8 ≤ length file
+    second-header n = there _ n (all-headers .1)
+
+    pub first-body : (chunks .first ≡ 0 → ⊥) → chunks .whole ≡ true → chunks .first + 8 + sizeAt order file (chunks .first) ≤ length file
+    first-body n w = there _ n (all-bodies w .0)
+
+    pub second-body : (chunks .second ≡ 0 → ⊥) → chunks .whole ≡ true → chunks .second + 8 + sizeAt order file (chunks .second) ≤ length file
+    second-body n w = there _ n (all-bodies w .1)

@@ -26,7 +26,7 @@ use Rattle.pcm.proofs.laws.Sixteen.{from-raised}
 
 -- ---- v / 32768 is exact
 
-scaled : (n : ℕ) → n ≤ 32768 → Holds binary32 n 32768
+pub scaled : (n : ℕ) → n ≤ 32768 → Holds binary32 n 32768
 scaled n h = subst (λ (x : ℕ). Holds binary32 x 32768) (mul-one n) (holds-scaled binary32 n 24 0 15 (omega arith) (omega arith) (omega arith) (omega arith))
 
 one-sign : (t s : Bool) (n d a : ℕ) → 0 < d → t ≡ s → n * 1 ≡ a * d → round binary32 t (n * 1) (32768 * d) ≡ round binary32 s a 32768

@@ -78,24 +78,31 @@ module _ (encoding : Encoding) (order : ByteOrder) (bytes : List ℕ) (start : �
   in-twos : (n : ℕ) → n % 2 ≡ 0 → n / 2 * 2 ≡ n
   in-twos n h = omega arith
 
-  pub stereo-end : (l : List Float) → length l % 2 ≡ 0 → changed stereoSample (length l) l ≡ samplesIn encoding order 2 bytes start (length l / 2)
+  -- the frames' samples, one by one
+  pub stereo-elements : (n : ℕ) → samplesIn encoding order 2 bytes start n ≡ pieces (λ j. valueAt encoding order bytes start j ∷ []) (n * 2)
   unfolding samplesIn
+  stereo-elements n =
+      let g = valueAt encoding order bytes start in
+      pieces-cong (λ i. g (i * 2) ∷ g (i * 2 + 2 - 1) ∷ []) (λ i. g (i * 2) ∷ g (i * 2 + 1) ∷ []) n (λ i k. ap (λ (z : ℕ). g (i * 2) ∷ g z ∷ []) (omega arith))
+      ∙ two-by-two g n
+
+  pub mono-elements : (n : ℕ) → samplesIn encoding order 1 bytes start n ≡ pieces (λ j. valueAt encoding order bytes start (j / 2) ∷ []) (n * 2)
+  unfolding samplesIn
+  mono-elements n =
+      let g = valueAt encoding order bytes start in
+      pieces-cong (λ i. g (i * 1) ∷ g (i * 1 + 1 - 1) ∷ []) (λ i. g (i * 2 / 2) ∷ g ((i * 2 + 1) / 2) ∷ []) n
+      (λ i k. ap₂ (λ (y z : ℕ). g y ∷ g z ∷ []) (omega arith) (omega arith))
+      ∙ two-by-two (λ j. g (j / 2)) n
+
+  pub stereo-end : (l : List Float) → length l % 2 ≡ 0 → changed stereoSample (length l) l ≡ samplesIn encoding order 2 bytes start (length l / 2)
   stereo-end l h =
       let g = valueAt encoding order bytes start in
-      all-elements g l nan
-      ∙ ap (pieces (λ j. g j ∷ [])) (sym (in-twos (length l) h))
-      ∙ sym (two-by-two g (length l / 2))
-      ∙ pieces-cong (λ i. g (i * 2) ∷ g (i * 2 + 1) ∷ []) (λ i. g (i * 2) ∷ g (i * 2 + 2 - 1) ∷ []) (length l / 2) (λ i k. ap (λ (z : ℕ). g (i * 2) ∷ g z ∷ []) (omega arith))
+      all-elements g l nan ∙ ap (pieces (λ j. g j ∷ [])) (sym (in-twos (length l) h)) ∙ sym (stereo-elements (length l / 2))
 
   pub mono-end : (l : List Float) → length l % 2 ≡ 0 → changed monoSample (length l) l ≡ samplesIn encoding order 1 bytes start (length l / 2)
-  unfolding samplesIn
   mono-end l h =
       let g = valueAt encoding order bytes start in
-      all-elements (λ j. g (j / 2)) l nan
-      ∙ ap (pieces (λ j. g (j / 2) ∷ [])) (sym (in-twos (length l) h))
-      ∙ sym (two-by-two (λ j. g (j / 2)) (length l / 2))
-      ∙ pieces-cong (λ i. g (i * 2 / 2) ∷ g ((i * 2 + 1) / 2) ∷ []) (λ i. g (i * 1) ∷ g (i * 1 + 1 - 1) ∷ []) (length l / 2)
-      (λ i k. ap₂ (λ (y z : ℕ). g y ∷ g z ∷ []) (omega arith) (omega arith))
+      all-elements (λ j. g (j / 2)) l nan ∙ ap (pieces (λ j. g (j / 2) ∷ [])) (sym (in-twos (length l) h)) ∙ sym (mono-elements (length l / 2))
 
   pub stereo-turn : (i : ℕ) (l : List Float) {x : Float} {now : List Float} → i < length l → now ≡ changed stereoSample i l
       → x ≡ valueAt encoding order bytes start i → set now i x ≡ changed stereoSample (i + 1) l

@@ -21,6 +21,21 @@ in-steps i step count n h s =
     let g : suc i * step ≤ count * step = mul-le-mul-right step h in
     omega (arith, suc-mul i step, s .apart, s .among)
 
+-- pieces of one length, put one after the other
+module _ (f : ℕ → List ℕ) (w : ℕ) (each : (k : ℕ) → length (f k) ≡ w) (start : ℕ) (l : List ℕ) where
+  length-all : (n : ℕ) → length (pieces f n) ≡ n * w
+  length-all n = length-pieces f w n (λ i h. each i)
+
+  pub piece-turn : (i : ℕ) {place : ℕ} {now last : List ℕ} → start ≤ length l → place ≡ start + i * w → now ≡ putAt start (pieces f i) l → last ≡ putAt place (f i) now
+      → last ≡ putAt start (pieces f (i + 1)) l
+  piece-turn i h p n q =
+      q ∙ put-turn start (pieces f i) (f i) l h n (p ∙ ap (λ (x : ℕ). start + x) (sym (length-all i))) ∙ ap (λ (x : List ℕ). putAt start x l) (sym (pieces-next f i))
+
+  pub pieces-length : (i count : ℕ) {now : List ℕ} → i ≤ count → start + count * w ≤ length l → now ≡ putAt start (pieces f i) l → length now ≡ length l
+  pieces-length i count h k e =
+      let g : i * w ≤ count * w = mul-le-mul-right w h in
+      ap length e ∙ length-put start (pieces f i) l (omega (arith, length-all i))
+
 module _ (encoding : Encoding) (order : ByteOrder) (samples : List Float) (step : ℕ) where
   pub length-encoded : (k : ℕ) → length (encodedAt encoding order samples step k) ≡ width encoding
   unfolding encodedAt
@@ -36,16 +51,11 @@ module _ (encoding : Encoding) (order : ByteOrder) (samples : List Float) (step 
       → last ≡ putAt start (pieces (encodedAt encoding order samples step) (i + 1)) l
   unfolding encodedAt
   write-turn start i l h e p n q =
-      let f = encodedAt encoding order samples step in
-      q
-      ∙ put-turn start (pieces f i) (f i) l h n (p ∙ ap (λ (x : ℕ). start + i * x) e ∙ ap (λ (x : ℕ). start + x) (sym (length-written i)))
-      ∙ ap (λ (x : List ℕ). putAt start x l) (sym (pieces-next f i))
+      piece-turn (encodedAt encoding order samples step) (width encoding) length-encoded start l i h (p ∙ ap (λ (x : ℕ). start + i * x) e) n q
 
   pub length-now : (start i count : ℕ) (l : List ℕ) {now : List ℕ} → i ≤ count → start + count * width encoding ≤ length l
       → now ≡ putAt start (pieces (encodedAt encoding order samples step) i) l → length now ≡ length l
-  length-now start i count l h k e =
-      let g : i * width encoding ≤ count * width encoding = mul-le-mul-right (width encoding) h in
-      ap length e ∙ length-put start (pieces (encodedAt encoding order samples step) i) l (omega (arith, length-written i))
+  length-now start i count l h k e = pieces-length (encodedAt encoding order samples step) (width encoding) length-encoded start l i count h k e
 
 -- ---- one channel or two
 

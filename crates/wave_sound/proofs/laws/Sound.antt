@@ -21,7 +21,7 @@ use Rattle.pcm.specs.Sample.{width}
 use Rattle.wave_sound.specs.declared.sound.Found.the-variants.{Holds, Refused}
 use Rattle.wave_sound.specs.declared.sound.Kind.{Kind}
 use Rattle.wave_sound.specs.declared.sound.Kind.the-variants.{Known, Other}
-use Rattle.wave_sound.specs.Sound.{riff, wave, formatChunk, dataChunk, channelsOk, kindOf, soundOf, hasChunks, soundKind, soundAt, soundAmong, soundIn}
+use Rattle.wave_sound.specs.Sound.{riff, wave, formatChunk, dataChunk, channelsOk, rateOk, kindOf, soundOf, hasChunks, soundKind, soundAt, soundAmong, soundIn}
 
 -- both of two tests
 pub both : (p q : Bool) → p && q ≡ true → (p ≡ true) × (q ≡ true)
@@ -54,6 +54,28 @@ module _ (channels : ℕ) where
       go (suc zero) h k = inl refl
       go (suc (suc zero)) h k = inr refl
       go (suc (suc (suc n))) h k = absurd (omega arith)
+
+  pub sides-ok : (channels ≡ 1) ⊎ (channels ≡ 2) → channelsOk channels ≡ true
+  unfolding channelsOk
+  sides-ok (inl e) = ap channelsOk e
+  sides-ok (inr e) = ap channelsOk e
+
+-- ---- the rate
+
+module _ (rate : ℕ) where
+  pub rate-below : rate < 8000 → false ≡ rateOk rate
+  unfolding rateOk
+  rate-below h = sym (ap (λ (t : Bool). t && leb rate 192000) (lt-leb 8000 rate h))
+
+  pub rate-from : 8000 ≤ rate → leb rate 192000 ≡ rateOk rate
+  unfolding rateOk
+  rate-from h = sym (ap (λ (t : Bool). t && leb rate 192000) (le-leb 8000 rate h))
+
+  pub rate-is : rateOk rate ≡ true → (8000 ≤ rate) × (rate ≤ 192000)
+  unfolding rateOk
+  rate-is e =
+      let p = both (leb 8000 rate) (leb rate 192000) e in
+      (leb-true 8000 rate (p .0), leb-true rate 192000 (p .1))
 
 -- ---- the sample kind
 
@@ -159,23 +181,16 @@ module _ (file : List ℕ) where
 
   module _ (chunks : Chunks) (walked : chunks ≡ walkOf Little formatChunk dataChunk file) where
     pub format-header : (chunks .first ≡ 0 → ⊥) → chunks .first + 8 ≤ length file
-    format-header = subst (λ (c : Chunks). (c .first ≡ 0 → ⊥) → c .first + 8 ≤ length file) (sym walked) (first-header Little formatChunk dataChunk file)
-
-    bodies : chunks .whole ≡ true → (chunks .first ≡ 0 → ⊥) → (chunks .second ≡ 0 → ⊥)
-        → (chunks .first + 8 + sizeAt Little file (chunks .first) ≤ length file) × (chunks .second + 8 + sizeAt Little file (chunks .second) ≤ length file)
-    bodies =
-        subst (λ (c : Chunks). c .whole ≡ true → (c .first ≡ 0 → ⊥) → (c .second ≡ 0 → ⊥)
-        → (c .first + 8 + sizeAt Little file (c .first) ≤ length file) × (c .second + 8 + sizeAt Little file (c .second) ≤ length file)) (sym walked)
-        (λ w n m. (first-body Little formatChunk dataChunk file n w, second-body Little formatChunk dataChunk file m w))
+    format-header = first-header Little formatChunk dataChunk file chunks walked
 
     -- the whole chunks of a file that has them
     pub data-body : hasChunks file (chunks .first) (chunks .second) ≡ true → chunks .whole ≡ true → chunks .second + 8 + sizeAt Little file (chunks .second) ≤ length file
-    data-body h w = let p = chunks-are file (chunks .first) (chunks .second) h in bodies w (p .0) (p .2) .1
+    data-body h w = second-body Little formatChunk dataChunk file chunks walked (chunks-are file (chunks .first) (chunks .second) h .2) w
 
     pub format-body : hasChunks file (chunks .first) (chunks .second) ≡ true → chunks .whole ≡ true → chunks .first + 24 ≤ length file
     format-body h w =
         let p = chunks-are file (chunks .first) (chunks .second) h in
-        omega (arith, bodies w (p .0) (p .2) .0, p .1)
+        omega (arith, first-body Little formatChunk dataChunk file chunks walked (p .0) w, p .1)
 
     among : isForm file riff wave ≡ true → soundAmong file chunks ≡ soundIn file
     unfolding soundIn

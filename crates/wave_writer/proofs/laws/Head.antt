@@ -1,18 +1,16 @@
--- Fields put one behind the other. Assumes nothing.
-use mathlib.Core.Path.{_≡_, refl, sym, ap, _∙_, subst}
-use mathlib.Core.List.{List, _++_, append-assoc}
+-- The head's fields, put one behind the other. Assumes nothing.
+use mathlib.Core.Path.{_≡_, refl, sym, ap, subst}
+use mathlib.Core.List.{List}
 use Prim.Native.Nat.{ℕ, _+_, _*_, _≤_}
 use native.Mathlib.Nat.{le-trans, mul-le-mul-right}
 use native.Mathlib.Omega.{arith}
-use lib.ListN.{length, length-append}
+use lib.ListN.{length}
 use Rattle.laws.specs.Pieces.{putAt}
-use Rattle.laws.proofs.laws.Pieces.{put-turn}
 use Rattle.pcm.specs.declared.sample.Encoding.{Encoding}
 use Rattle.pcm.specs.declared.sample.Encoding.the-variants.{Pcm16, Float32}
-use Rattle.byte_order.specs.declared.bytes.ByteOrder.{ByteOrder}
 use Rattle.byte_order.specs.declared.bytes.ByteOrder.the-variants.{Little, Big}
 use Rattle.byte_order.specs.Bytes.{bytesOf}
-use Rattle.byte_order.proofs.laws.Bytes.{length-bytes}
+use Rattle.byte_order.proofs.laws.Fields.{put-two, put-three, put-four, behind}
 use Rattle.pcm.specs.Sample.{width}
 use Rattle.wave_sound.specs.Sound.{riff, wave, formatChunk, dataChunk}
 use Rattle.wave_writer.specs.Write.{tagOf, riffOf, formatStart, formatRest, dataHeaderOf, headOf}
@@ -25,24 +23,7 @@ pub tag-float : (encoding : Encoding) → encoding ≡ Float32 → 3 ≡ tagOf e
 unfolding tagOf
 tag-float encoding e = sym (ap tagOf e)
 
-module _ {A : Type 0} (at : ℕ) (l : List A) (h : at ≤ length l) where
-  put-two : (a b : List A) {n m : List A} {to : ℕ} → n ≡ putAt at a l → m ≡ putAt to b n → to ≡ at + length a → m ≡ putAt at (a ++ b) l
-  put-two a b e f p = f ∙ put-turn at a b l h e p
-
-  put-three : (a b c : List A) {n m k : List A} {to on : ℕ} → n ≡ putAt at a l → m ≡ putAt to b n → k ≡ putAt on c m → to ≡ at + length a → on ≡ to + length b → k ≡ putAt at (a ++ (b ++ c)) l
-  put-three a b c e f g p q =
-      put-two (a ++ b) c (put-two a b e f p) g (omega (arith, length-append a b)) ∙ ap (λ (x : List A). putAt at x l) (append-assoc a b c)
-
-  put-four : (a b c d : List A) {n m k j : List A} {to on up : ℕ} → n ≡ putAt at a l → m ≡ putAt to b n → k ≡ putAt on c m → j ≡ putAt up d k
-      → to ≡ at + length a → on ≡ to + length b → up ≡ on + length c → j ≡ putAt at (a ++ (b ++ (c ++ d))) l
-  put-four a b c d e f g i p q r =
-      put-three (a ++ b) c d (put-two a b e f p) g i (omega (arith, length-append a b)) r ∙ ap (λ (x : List A). putAt at x l) (append-assoc a b (c ++ d))
-
 -- ---- the parts of the head
-
--- a number's bytes end where the next field begins
-behind : (order : ByteOrder) (n number at to : ℕ) → to ≡ at + n → to ≡ at + length (bytesOf order n number)
-behind order n number at to e = e ∙ ap (λ (x : ℕ). at + x) (sym (length-bytes order n number))
 
 pub length-riff : (size : ℕ) → length (riffOf size) ≡ 12
 unfolding riffOf bytesOf

@@ -1,47 +1,33 @@
 -- What the writer answers, in each case. Assumes nothing.
-use mathlib.Core.Path.{_≡_, refl, sym, ap, ap₂, _∙_}
+use mathlib.Core.Path.{_≡_, refl, sym, ap, ap₂, _∙_, subst}
 use mathlib.Core.Bool.{Bool, true, false, cond, _&&_}
-use mathlib.Core.List.{List, _++_, append-nil}
-use Prim.Native.Nat.{ℕ, _+_, _*_, _/_, _%_, _≤_, _<_}
+use mathlib.Core.List.{List}
+use Prim.Native.Nat.{ℕ, zero, suc, _+_, _-_, _*_, _/_, _%_, _≤_, _<_}
 use native.Mathlib.Nat.{mul-comm, mul-le-mul-right}
 use native.Mathlib.Omega.{arith}
 use lib.Dec.{eqb, leb}
 use lib.IntN.{pos}
-use lib.ListN.{length, getD, length-append, drop-of-length-le}
+use lib.ListN.{length, getD, length-append}
 use lib.Ieee.{Float, nan, binary32, le, neg, ofInt}
 use borrow.Author.Tests.{eq-eqb, ne-eqb, eqb-true, le-leb, lt-leb, leb-true}
-use Rattle.scene_tables.proofs.laws.Every.{every-at}
 use Rattle.laws.proofs.laws.Choice.{cond-true, cond-false, true-T}
 use Rattle.laws.specs.Pieces.{putAt}
-use Rattle.laws.proofs.laws.Pieces.{put-turn}
+use Rattle.byte_order.specs.declared.bytes.ByteOrder.{ByteOrder}
 use Rattle.byte_order.specs.declared.bytes.ByteOrder.the-variants.{Little}
+use Rattle.byte_order.proofs.laws.Fields.{put-both}
 use Rattle.pcm.specs.declared.sample.Encoding.{Encoding}
 use Rattle.pcm.specs.declared.sample.Encoding.the-variants.{Pcm16, Float32}
 use Rattle.pcm.specs.Sample.{InRange, width}
+use Rattle.scene_tables.proofs.laws.Every.{every-at}
 use Rattle.scene_questions.specs.Questions.{sampleOk, samplesOk}
 use Rattle.sound_data.specs.Data.{dataOf, AllInRange}
 use Rattle.sound_data.proofs.laws.Back.{length-data}
 use Rattle.wave_sound.specs.declared.sound.Kind.{Kind}
 use Rattle.wave_sound.specs.declared.sound.Kind.the-variants.{Known, Other}
-use Rattle.wave_sound.specs.Sound.{channelsOk}
-use Rattle.wave_sound.proofs.laws.Sound.{channels-are, width-pos, both}
-use Rattle.wave_writer.specs.Write.{headOf, dataLength, fileOf, writing, rateOk, lengthOk, Writable, writeKnown, kindOfBits, writeKind, writeOf, lengthKnown, lengthFor}
+use Rattle.wave_sound.specs.Sound.{channelsOk, rateOk}
+use Rattle.wave_sound.proofs.laws.Sound.{both, channels-are, width-pos}
+use Rattle.wave_writer.specs.Write.{headLength, headOf, dataLength, fileOf, fileMost, writing, lengthOk, asked, answered, kindOfBits, writeKind, writeOf, lengthWith, lengthKnown, lengthFor}
 use Rattle.wave_writer.proofs.laws.Head.{length-head}
-
--- ---- the rate
-
-module _ (rate : ℕ) where
-  pub rate-below : rate < 8000 → false ≡ rateOk rate
-  unfolding rateOk
-  rate-below h = sym (ap (λ (t : Bool). t && leb rate 192000) (lt-leb 8000 rate h))
-
-  pub rate-from : 8000 ≤ rate → leb rate 192000 ≡ rateOk rate
-  unfolding rateOk
-  rate-from h = sym (ap (λ (t : Bool). t && leb rate 192000) (le-leb 8000 rate h))
-
-  pub rate-most : rateOk rate ≡ true → rate ≤ 192000
-  unfolding rateOk
-  rate-most e = leb-true rate 192000 (both (leb 8000 rate) (leb rate 192000) e .1)
 
 -- ---- the bits
 
@@ -60,20 +46,20 @@ module _ (bits : ℕ) where
 
 -- ---- lengths
 
-module _ (size room : ℕ) where
-  pub size-above : 4294967259 < size → false ≡ lengthOk size room
+module _ (head size room : ℕ) (h : head ≤ fileMost) where
+  pub size-above : fileMost - head < size → false ≡ lengthOk head size room
   unfolding lengthOk
-  size-above h = sym (ap (λ (t : Bool). t && eqb room (44 + size)) (lt-leb (36 + size) 4294967295 (omega arith)))
+  size-above k = sym (ap (λ (t : Bool). t && eqb room (head + size)) (lt-leb (head + size) fileMost (omega arith)))
 
-  pub size-within : size ≤ 4294967259 → eqb room (44 + size) ≡ lengthOk size room
+  pub size-within : size ≤ fileMost - head → eqb room (head + size) ≡ lengthOk head size room
   unfolding lengthOk
-  size-within h = sym (ap (λ (t : Bool). t && eqb room (44 + size)) (le-leb (36 + size) 4294967295 (omega arith)))
+  size-within k = sym (ap (λ (t : Bool). t && eqb room (head + size)) (le-leb (head + size) fileMost (omega arith)))
 
-  pub length-is : lengthOk size room ≡ true → (36 + size ≤ 4294967295) × (room ≡ 44 + size)
-  unfolding lengthOk
-  length-is e =
-      let p = both (leb (36 + size) 4294967295) (eqb room (44 + size)) e in
-      (leb-true (36 + size) 4294967295 (p .0), eqb-true room (44 + size) (p .1))
+pub length-is : (head size room : ℕ) → lengthOk head size room ≡ true → (head + size ≤ fileMost) × (room ≡ head + size)
+unfolding lengthOk
+length-is head size room e =
+    let p = both (leb (head + size) fileMost) (eqb room (head + size)) e in
+    (leb-true (head + size) fileMost (p .0), eqb-true room (head + size) (p .1))
 
 -- n / 2 * channels * w, for one channel or two and 2 or 4 bytes
 width-least : (encoding : Encoding) → 2 ≤ width encoding
@@ -81,10 +67,20 @@ unfolding width
 width-least Pcm16 = omega arith
 width-least Float32 = omega arith
 
-module _ (samples channels : ℕ) (encoding : Encoding) (c : channelsOk channels ≡ true) where
-  values : ℕ
-  values = samples / 2 * channels
+even-width : (e : Encoding) (n : ℕ) → n * width e % 2 ≡ 0
+unfolding width
+even-width Pcm16 n = omega arith
+even-width Float32 n = omega arith
 
+pub data-even : (samples channels : ℕ) (encoding : Encoding) → dataLength samples channels encoding % 2 ≡ 0
+unfolding dataLength
+data-even samples channels encoding = even-width encoding (samples / 2 * channels)
+
+pub own-length : (encoding : Encoding) (order : ByteOrder) (channels : ℕ) (samples : List Float) → length (dataOf encoding order channels samples) ≡ dataLength (length samples) channels encoding
+unfolding dataLength
+own-length encoding order channels samples = length-data encoding order channels samples
+
+module _ (samples channels : ℕ) (encoding : Encoding) (c : channelsOk channels ≡ true) where
   pub values-most : samples / 2 * channels ≤ samples
   values-most =
       let h : channels * (samples / 2) ≤ 2 * (samples / 2) = mul-le-mul-right (samples / 2) (channels-are channels c .1) in
@@ -95,38 +91,39 @@ module _ (samples channels : ℕ) (encoding : Encoding) (c : channelsOk channels
       let h : width encoding * (samples / 2 * channels) ≤ 4 * (samples / 2 * channels) = mul-le-mul-right (samples / 2 * channels) (width-pos encoding .1) in
       omega (arith, mul-comm (samples / 2 * channels) (width encoding), values-most)
 
-  size-least : 2 * (samples / 2) ≤ dataLength samples channels encoding
+  pub size-least : 2 * (samples / 2) ≤ dataLength samples channels encoding
   unfolding dataLength
   size-least =
       let h : 1 * (samples / 2) ≤ channels * (samples / 2) = mul-le-mul-right (samples / 2) (channels-are channels c .0) in
       let k : 2 * (samples / 2 * channels) ≤ width encoding * (samples / 2 * channels) = mul-le-mul-right (samples / 2 * channels) (width-least encoding) in
       omega (arith, mul-comm (samples / 2) channels, mul-comm (samples / 2 * channels) (width encoding))
 
-  -- the length of a file
-  known : lengthKnown (Known encoding) samples channels ≡ cond (leb (36 + dataLength samples channels encoding) 4294967295) (44 + dataLength samples channels encoding) 0
-  unfolding lengthKnown
-  known = cond-true (channelsOk channels) _ 0 c
+module _ (head samples channels : ℕ) (encoding : Encoding) where
+  pub length-no-channels : channelsOk channels ≡ false → 0 ≡ lengthWith head samples channels encoding
+  unfolding lengthWith
+  length-no-channels n = sym (cond-false (channelsOk channels) _ 0 n)
 
-  pub length-fits : dataLength samples channels encoding ≤ 4294967259 → 44 + dataLength samples channels encoding ≡ lengthKnown (Known encoding) samples channels
-  length-fits h = sym (known ∙ cond-true (leb (36 + dataLength samples channels encoding) 4294967295) _ 0 (le-leb (36 + dataLength samples channels encoding) 4294967295 (omega arith)))
+  module _ (h : head ≤ fileMost) (c : channelsOk channels ≡ true) where
+    known : lengthWith head samples channels encoding ≡ cond (leb (head + dataLength samples channels encoding) fileMost) (head + dataLength samples channels encoding) 0
+    unfolding lengthWith
+    known = cond-true (channelsOk channels) _ 0 c
 
-  pub length-none : 4294967259 < dataLength samples channels encoding → 0 ≡ lengthKnown (Known encoding) samples channels
-  length-none h = sym (known ∙ cond-false (leb (36 + dataLength samples channels encoding) 4294967295) _ 0 (lt-leb (36 + dataLength samples channels encoding) 4294967295 (omega arith)))
+    pub length-fits : dataLength samples channels encoding ≤ fileMost - head → head + dataLength samples channels encoding ≡ lengthWith head samples channels encoding
+    length-fits k =
+        let size = dataLength samples channels encoding in
+        sym (known ∙ cond-true (leb (head + size) fileMost) _ 0 (le-leb (head + size) fileMost (omega arith)))
 
-  pub length-never : 4294967259 < samples → 0 ≡ lengthKnown (Known encoding) samples channels
-  length-never h = length-none (omega (arith, size-least))
+    pub length-none : fileMost - head < dataLength samples channels encoding → 0 ≡ lengthWith head samples channels encoding
+    length-none k =
+        let size = dataLength samples channels encoding in
+        sym (known ∙ cond-false (leb (head + size) fileMost) _ 0 (lt-leb (head + size) fileMost (omega arith)))
+
+    pub length-never : fileMost < samples → 0 ≡ lengthWith head samples channels encoding
+    length-never k = length-none (omega (arith, size-least samples channels encoding c))
 
 module _ (samples channels bits : ℕ) where
-  pub length-no-channels : channelsOk channels ≡ false → 0 ≡ lengthFor samples channels bits
+  pub length-by : (encoding : Encoding) → kindOfBits bits ≡ Known encoding → lengthWith headLength samples channels encoding ≡ lengthFor samples channels bits
   unfolding lengthFor lengthKnown
-  length-no-channels n = sym (none (kindOfBits bits))
-    where
-      none : (k : Kind) → lengthKnown k samples channels ≡ 0
-      none (Known encoding) = cond-false (channelsOk channels) _ 0 n
-      none Other = refl
-
-  pub length-by : (encoding : Encoding) → kindOfBits bits ≡ Known encoding → lengthKnown (Known encoding) samples channels ≡ lengthFor samples channels bits
-  unfolding lengthFor
   length-by encoding e = sym (ap (λ (k : Kind). lengthKnown k samples channels) e)
 
   pub length-other : kindOfBits bits ≡ Other → 0 ≡ lengthFor samples channels bits
@@ -147,82 +144,126 @@ pub all-in-range : (samples : List Float) → samplesOk samples ≡ true → All
 unfolding samplesOk
 all-in-range samples e = record { each = λ i h. sample-in-range (getD samples i nan) (every-at (length samples) (λ j. sampleOk (getD samples j nan)) i h e) }
 
+-- ---- the questions, and what is known where none says no
+
+pub record Writable (head rate channels : ℕ) (encoding : Encoding) (samples : List Float) (room : ℕ) : Type 0 where
+  pub rated : rateOk rate ≡ true
+  pub sided : channelsOk channels ≡ true
+  pub even : length samples % 2 ≡ 0
+  pub inRange : AllInRange samples
+  pub small : head + dataLength (length samples) channels encoding ≤ fileMost
+  pub roomy : room ≡ head + dataLength (length samples) channels encoding
+
+-- a question that was passed, and what was asked behind it
+pub picked : (b : Bool) (x n : ℕ) → (n ≡ 0 → ⊥) → cond b x n ≡ 0 → (b ≡ true) × (x ≡ 0)
+picked true x n z e = (refl, e)
+picked false x n z e = absurd (z e)
+
+module _ (head rate channels : ℕ) (encoding : Encoding) (samples : List Float) (room : ℕ) where
+  abbrev askedBy : Bool → Bool → Bool → Bool → Bool → ℕ
+  askedBy a b c d e = cond a (cond b (cond c (cond d (cond e 0 10) 9) 8) 15) 4
+
+  asked-by : {a b c d e : Bool} → rateOk rate ≡ a → channelsOk channels ≡ b → eqb (length samples % 2) 0 ≡ c → samplesOk samples ≡ d
+      → lengthOk head (dataLength (length samples) channels encoding) room ≡ e → askedBy a b c d e ≡ asked head rate channels encoding samples room
+  unfolding asked
+  asked-by p q r s t = cc
+
+  pub asked-rate : rateOk rate ≡ false → 4 ≡ asked head rate channels encoding samples room
+  asked-rate p = asked-by p refl refl refl refl
+
+  module _ (p : rateOk rate ≡ true) where
+    pub asked-channels : channelsOk channels ≡ false → 15 ≡ asked head rate channels encoding samples room
+    asked-channels q = asked-by p q refl refl refl
+
+    module _ (q : channelsOk channels ≡ true) where
+      pub asked-odd : (length samples % 2 ≡ 0 → ⊥) → 8 ≡ asked head rate channels encoding samples room
+      asked-odd r = asked-by p q (ne-eqb (length samples % 2) 0 r) refl refl
+
+      module _ (r : length samples % 2 ≡ 0) where
+        pub asked-outside : samplesOk samples ≡ false → 9 ≡ asked head rate channels encoding samples room
+        asked-outside s = asked-by p q (eq-eqb (length samples % 2) 0 r) s refl
+
+        module _ (s : samplesOk samples ≡ true) where
+          pub asked-length : lengthOk head (dataLength (length samples) channels encoding) room ≡ false → 10 ≡ asked head rate channels encoding samples room
+          asked-length t = asked-by p q (eq-eqb (length samples % 2) 0 r) s t
+
+          pub asked-all : lengthOk head (dataLength (length samples) channels encoding) room ≡ true → 0 ≡ asked head rate channels encoding samples room
+          asked-all t = asked-by p q (eq-eqb (length samples % 2) 0 r) s t
+
+  pub none-asked : asked head rate channels encoding samples room ≡ 0 → Writable head rate channels encoding samples room
+  unfolding asked
+  none-asked e =
+      let size = dataLength (length samples) channels encoding in
+      let p = picked (rateOk rate) _ 4 (λ z. omega arith) e in
+      let q = picked (channelsOk channels) _ 15 (λ z. omega arith) (p .1) in
+      let r = picked (eqb (length samples % 2) 0) _ 8 (λ z. omega arith) (q .1) in
+      let s = picked (samplesOk samples) _ 9 (λ z. omega arith) (r .1) in
+      let t = picked (lengthOk head size room) 0 10 (λ z. omega arith) (s .1) in
+      let l = length-is head size room (t .0) in
+      record {
+        rated = p .0;
+        sided = q .0;
+        even = eqb-true (length samples % 2) 0 (r .0);
+        inRange = all-in-range samples (s .0);
+        small = l .0;
+        roomy = l .1;
+      }
+
 -- ---- the file
 
-put-all : {A : Type 0} (p l : List A) → length p ≡ length l → putAt 0 p l ≡ p
-unfolding putAt
-put-all {A} p l e = ap (λ (x : List A). p ++ x) (drop-of-length-le l {i = 0 + length p} (omega arith)) ∙ append-nil p
+pub length-file : (rate channels : ℕ) (encoding : Encoding) (samples : List Float) → length (fileOf rate channels encoding samples) ≡ headLength + dataLength (length samples) channels encoding
+unfolding fileOf
+length-file rate channels encoding samples =
+    let size = dataLength (length samples) channels encoding in
+    length-append (headOf rate channels encoding size) (dataOf encoding Little channels samples)
+    ∙ ap₂ _+_ (length-head rate channels encoding size) (own-length encoding Little channels samples)
 
-module _ (rate channels : ℕ) (encoding : Encoding) (samples : List Float) (size : ℕ) (file : List ℕ) (w : Writable rate channels encoding samples size (length file)) where
-  pub file-written : {n m : List ℕ} → n ≡ putAt 0 (headOf rate channels encoding size) file → m ≡ putAt 44 (dataOf encoding Little channels samples) n → m ≡ fileOf rate channels encoding samples
-  unfolding fileOf dataLength
-  file-written e f =
-      let head = headOf rate channels encoding size in
-      let body = dataOf encoding Little channels samples in
-      let room = length-is size (length file) (w .roomy) in
-      let long : length (head ++ body) ≡ length file = length-append head body ∙ ap₂ _+_ (length-head rate channels encoding size) (length-data encoding Little channels samples ∙ sym sized) ∙ sym (room .1) in
-      f
-      ∙ put-turn 0 head body file (omega arith) e (ap (λ (x : ℕ). 0 + x) (sym (length-head rate channels encoding size)))
-      ∙ put-all (head ++ body) file long
-      ∙ ap (λ (x : ℕ). headOf rate channels encoding x ++ body) (w .sized)
-    where
-      sized : size ≡ length samples / 2 * channels * width encoding
-      sized = w .sized
+module _ (rate channels : ℕ) (encoding : Encoding) (samples : List Float) (file : List ℕ) (w : Writable headLength rate channels encoding samples (length file)) where
+  pub file-written : {size : ℕ} {n m : List ℕ} → size ≡ dataLength (length samples) channels encoding → n ≡ putAt 0 (headOf rate channels encoding size) file
+      → m ≡ putAt headLength (dataOf encoding Little channels samples) n → m ≡ fileOf rate channels encoding samples
+  unfolding fileOf
+  file-written {size} {n} z e f =
+      let all = dataLength (length samples) channels encoding in
+      put-both (headOf rate channels encoding all) (dataOf encoding Little channels samples) file headLength (length-head rate channels encoding all)
+      (w .roomy ∙ ap (λ (x : ℕ). headLength + x) (sym (own-length encoding Little channels samples)))
+      (subst (λ (x : ℕ). n ≡ putAt 0 (headOf rate channels encoding x) file) z e) f
 
-  -- what the calls ask
-  pub head-room : 44 ≤ length file
-  head-room = omega (arith, length-is size (length file) (w .roomy) .1)
-
-  pub riff-room : 36 + size ≤ 4294967295
-  riff-room = length-is size (length file) (w .roomy) .0
-
-  pub data-room : 44 + length samples / 2 * channels * width encoding ≤ length file
+  pub data-room : headLength + length samples / 2 * channels * width encoding ≤ length file
   unfolding dataLength
-  data-room = omega (arith, length-is size (length file) (w .roomy) .1, w .sized)
+  data-room = omega (arith, w .roomy)
 
 -- ---- the answers
 
-module _ (rate channels : ℕ) (encoding : Encoding) (samples : List Float) (file : List ℕ) where
-  abbrev size : ℕ
-  size = dataLength (length samples) channels encoding
+module _ (written file : List ℕ) where
+  pub answer-refused : (n : ℕ) → (n ≡ 0 → ⊥) → writing n file ≡ answered n written file
+  unfolding answered
+  answer-refused n z = sym (cond-false (eqb n 0) _ (writing n file) (ne-eqb n 0 z))
 
-  pub known-odd : (length samples % 2 ≡ 0 → ⊥) → writing 8 file ≡ writeKnown rate channels encoding samples file
-  unfolding writeKnown
-  known-odd n = sym (cond-false (eqb (length samples % 2) 0) _ (writing 8 file) (ne-eqb (length samples % 2) 0 n))
+  pub answer-written : (n : ℕ) → n ≡ 0 → writing 0 written ≡ answered n written file
+  unfolding answered
+  answer-written n z = sym (cond-true (eqb n 0) _ (writing n file) (eq-eqb n 0 z))
 
-  module _ (z : length samples % 2 ≡ 0) where
-    first : writeKnown rate channels encoding samples file ≡ cond (samplesOk samples) (cond (lengthOk (dataLength (length samples) channels encoding) (length file)) (writing 0 (fileOf rate channels encoding samples)) (writing 10 file)) (writing 9 file)
-    unfolding writeKnown
-    first = cond-true (eqb (length samples % 2) 0) _ (writing 8 file) (eq-eqb (length samples % 2) 0 z)
+  refused : {n : ℕ} {f g : List ℕ} → (n ≡ 0 → ⊥) → writing n f ≡ writing 0 g → ⊥
+  refused z e = z (cc)
 
-    pub known-outside : samplesOk samples ≡ false → writing 9 file ≡ writeKnown rate channels encoding samples file
-    known-outside n = sym (first ∙ cond-false (samplesOk samples) _ (writing 9 file) n)
+  same : {f g : List ℕ} → writing 0 f ≡ writing 0 g → g ≡ f
+  same e = cc
 
-    pub known-length : samplesOk samples ≡ true → lengthOk (dataLength (length samples) channels encoding) (length file) ≡ false → writing 10 file ≡ writeKnown rate channels encoding samples file
-    known-length s n = sym (first ∙ cond-true (samplesOk samples) _ (writing 9 file) s ∙ cond-false (lengthOk (dataLength (length samples) channels encoding) (length file)) _ (writing 10 file) n)
-
-    pub known-written : samplesOk samples ≡ true → lengthOk (dataLength (length samples) channels encoding) (length file) ≡ true
-        → writing 0 (fileOf rate channels encoding samples) ≡ writeKnown rate channels encoding samples file
-    known-written s n = sym (first ∙ cond-true (samplesOk samples) _ (writing 9 file) s ∙ cond-true (lengthOk (dataLength (length samples) channels encoding) (length file)) _ (writing 10 file) n)
+  -- what is accepted
+  pub answer-is : (n : ℕ) (made : List ℕ) → answered n written file ≡ writing 0 made → (n ≡ 0) × (made ≡ written)
+  answer-is zero made e = (refl, same (answer-written 0 refl ∙ e))
+  answer-is (suc n) made e = absurd (refused (λ z. omega arith) (answer-refused (suc n) (λ z. omega arith) ∙ e))
 
 module _ (rate channels bits : ℕ) (samples : List Float) (file : List ℕ) where
-  pub write-rate : rateOk rate ≡ false → writing 4 file ≡ writeOf rate channels bits samples file
+  pub write-by : (encoding : Encoding) → kindOfBits bits ≡ Known encoding → writeKind (Known encoding) rate channels samples file ≡ writeOf rate channels bits samples file
   unfolding writeOf
-  write-rate e = sym (cond-false (rateOk rate) _ (writing 4 file) e)
+  write-by encoding e = sym (ap (λ (k : Kind). writeKind k rate channels samples file) e)
 
-  pub write-channels : rateOk rate ≡ true → channelsOk channels ≡ false → writing 15 file ≡ writeOf rate channels bits samples file
-  unfolding writeOf
-  write-channels e n = sym (cond-true (rateOk rate) _ (writing 4 file) e ∙ cond-false (channelsOk channels) _ (writing 15 file) n)
+  pub write-other : {n : ℕ} → n ≡ cond (rateOk rate) 15 4 → kindOfBits bits ≡ Other → writing n file ≡ writeOf rate channels bits samples file
+  unfolding writeOf writeKind
+  write-other z e = ap (λ (n : ℕ). writing n file) z ∙ sym (ap (λ (k : Kind). writeKind k rate channels samples file) e)
 
-  kinds : rateOk rate ≡ true → channelsOk channels ≡ true → writeOf rate channels bits samples file ≡ writeKind (kindOfBits bits) rate channels samples file
-  unfolding writeOf
-  kinds e n = cond-true (rateOk rate) _ (writing 4 file) e ∙ cond-true (channelsOk channels) _ (writing 15 file) n
-
-  pub write-known : (encoding : Encoding) → rateOk rate ≡ true → channelsOk channels ≡ true → kindOfBits bits ≡ Known encoding
-      → writeOf rate channels bits samples file ≡ writeKnown rate channels encoding samples file
-  unfolding writeKind
-  write-known encoding e n k = kinds e n ∙ ap (λ (x : Kind). writeKind x rate channels samples file) k
-
-  pub write-other : rateOk rate ≡ true → channelsOk channels ≡ true → kindOfBits bits ≡ Other → writeOf rate channels bits samples file ≡ writing 15 file
-  unfolding writeKind
-  write-other e n k = kinds e n ∙ ap (λ (x : Kind). writeKind x rate channels samples file) k
+pub known-is : (rate channels : ℕ) (encoding : Encoding) (samples : List Float) (file : List ℕ)
+    → answered (asked headLength rate channels encoding samples (length file)) (fileOf rate channels encoding samples) file ≡ writeKind (Known encoding) rate channels samples file
+unfolding writeKind
+known-is rate channels encoding samples file = refl

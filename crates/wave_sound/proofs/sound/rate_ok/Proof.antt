@@ -1,8 +1,8 @@
 -- `rate_ok` meets its contract. Assumes nothing.
 use borrow.Author.Needs.{needs}
-use Rattle.wave_writer.proofs.laws.Write.{rate-below, rate-from}
-use Rattle.wave_writer.proofs.file.rate_ok.Statement.{statement}
-use Rattle.wave_writer.proofs.file.rate_ok.Tie as tie
+use Rattle.wave_sound.proofs.laws.Sound.{rate-below, rate-from}
+use Rattle.wave_sound.proofs.sound.rate_ok.Statement.{statement}
+use Rattle.wave_sound.proofs.sound.rate_ok.Tie as tie
 
 returns : tie.Need-returns
 returns c = rate-below (c .before .args .rate) (search needs)

@@ -2,12 +2,11 @@
 use mathlib.Core.Path.{ap}
 use Prim.Native.Nat.{ℕ, _*_, _/_}
 use native.Mathlib.Omega.{arith}
-use borrow.Author.Needs.{needs}
 use Rattle.wave_writer.specs.Write.{dataLength}
 use Rattle.wave_writer.proofs.laws.Write.{values-most, size-most}
 use borrow.Author.Needs.{needs}
-use Rattle.wave_writer.proofs.file.data_length.Statement.{statement}
-use Rattle.wave_writer.proofs.file.data_length.Tie as tie
+use Rattle.wave_writer.proofs.questions.data_length.Statement.{statement}
+use Rattle.wave_writer.proofs.questions.data_length.Tie as tie
 
 mul-result : tie.Need-mul-result
 mul-result c = omega (arith, values-most (c .args .samples) (c .args .channels) (c .args .encoding) (c .pre .1), c .pre .0)

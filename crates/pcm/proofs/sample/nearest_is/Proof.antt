@@ -1,0 +1,30 @@
+-- `nearest_is` meets its contract. Assumes nothing.
+use native.Mathlib.Omega.{arith}
+use Rattle.pcm.specs.Sample.{whole16, patternOf}
+use Rattle.pcm.proofs.laws.Sixteen.{from-raised}
+use Rattle.pcm.proofs.laws.Whole.{own-value}
+use borrow.Author.Needs.{needs}
+use Rattle.pcm.proofs.sample.nearest_is.Statement.{statement}
+use Rattle.pcm.proofs.sample.nearest_is.Tie as tie
+
+pattern-16-requires : tie.Need-pattern-16-requires
+pattern-16-requires c κs = search needs
+
+sample-16-requires : tie.Need-sample-16-requires
+unfolding patternOf
+sample-16-requires c κs = omega (arith, from-raised (c .before .args .x) .bits, c .pattern-16 .ensures)
+
+f32-bits-requires : tie.Need-f32-bits-requires
+f32-bits-requires c κs = search needs
+
+f32-bits-requires-2 : tie.Need-f32-bits-requires-2
+f32-bits-requires-2 c κs = search needs
+
+returns : tie.Need-returns
+unfolding whole16
+returns c = cc (own-value (c .before .before .before .before .args .x))
+
+pub nearest-is-spec : {M : Type 1} → statement M
+nearest-is-spec =
+    tie.close
+    (tie.spec pattern-16-requires sample-16-requires f32-bits-requires f32-bits-requires-2 returns)
