@@ -1,0 +1,8 @@
+// Sound files in the form AIFF, for users: what a file in hand is, its samples, and a file of given
+// samples. Each answers 0, or the number of its refusal, and then writes nothing.
+mod routines;
+
+pub use routines::room_desk_aiff_info;
+pub use routines::room_desk_aiff_length;
+pub use routines::room_desk_aiff_read;
+pub use routines::room_desk_aiff_write;
