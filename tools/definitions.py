@@ -22,6 +22,8 @@ ROUTINES = {
     "render_files": ["render_text"],
     "month_files": ["month_text"],
     "wave": ["room_desk_wave_info", "room_desk_wave_read", "room_desk_wave_write", "room_desk_wave_length"],
+    "aiff": ["room_desk_aiff_info", "room_desk_aiff_read", "room_desk_aiff_write", "room_desk_aiff_length"],
+    "sound_converter": ["room_desk_wave_to_aiff", "room_desk_aiff_to_wave"],
 }
 # the theorems that stand beside the contracts
 THEOREMS = [
@@ -39,6 +41,8 @@ THEOREMS = [
     ("render_files", "first-bytes"),
     ("pcm", "plus-multiple"),
     ("pcm", "minus-multiple"),
+    ("pcm", "whole-passes"),
+    ("pcm", "passes-whole"),
     ("wave", "minus-zero-lost"),
     ("wave", "one-lost"),
     ("month", "totals-add"),
@@ -48,6 +52,8 @@ THEOREMS = [
     ("month_files", "lines-refused"),
     ("month_files", "month-printed"),
     ("month_files", "cut-anywhere"),
+    ("aiff_rate", "shift-scales"),
+    ("sound_converter", "there-and-back"),
     ("test_examples", "examples-agree"),
     ("test_alike_pairs", "all-alike"),
     ("test_alike_pairs", "no-control"),
