@@ -3,7 +3,7 @@
 
     tools/wave_compare.py DRIVER [--seed N] [--cases N]
 
-DRIVER is the driver of drivers/wave (docs/WAVE.md says how to build it). Three cases in four are files to read, one is a file to write.
+DRIVER is the driver of drivers/wave (docs/SOUND_FILES.md says how to build it). Three cases in four are files to read, one is a file to write.
 Exit status 1 where anything differs; the first case that does is written to target/differs.
 """
 

@@ -3,7 +3,7 @@
 
     tools/wave_tools.py DRIVER [--seed N] [--rounds N]
 
-DRIVER is the driver of drivers/wave (docs/WAVE.md says how to build it). It needs the commands sox, sndfile-convert and ffmpeg, which are
+DRIVER is the driver of drivers/wave (docs/SOUND_FILES.md says how to build it). It needs the commands sox, sndfile-convert and ffmpeg, which are
 in Debian's packages sox, sndfile-programs and ffmpeg; it installs nothing. Exit status 1 where anything differs.
 
 A tool says a file's samples by turning it into raw 32-bit floats (sox and ffmpeg) or into an AU file of the same kind (libsndfile, which scales 16-bit
