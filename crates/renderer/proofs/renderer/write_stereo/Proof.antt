@@ -1,8 +1,10 @@
 -- `renderer::write_stereo` meets its contract: the two sides are the piece of two channels. Assumes nothing.
 use mathlib.Core.Path.{_≡_, refl, sym, ap, _∙_, subst}
+use mathlib.Core.List.{List}
 use Prim.Native.Nat.{ℕ, _+_, _-_, _*_, _≤_, _<_}
 use native.Mathlib.Omega.{arith}
 use lib.ListN.{length, set, length-set}
+use lib.Ieee.{Float}
 use borrow.Author.Needs.{needs}
 use Rattle.frame.specs.Layout.{scratch, frameAt}
 use Rattle.laws.specs.Pieces.{pieces, begun}
@@ -51,13 +53,17 @@ slice-write-out-2 : tie.Need-slice-write-out-2 Inv-loop μ-loop
 slice-write-out-2 c =
     let l = c .before .before .before in
     let start = l .before .before .before in
-    subst (λ (n : ℕ). 2 * l .loop .i + 1 < n) (sym (length-set (l .loop .out) (2 * l .loop .i) (c .clamped .result .left))) (omega (arith, c .before .before .loop-test .taken, l .loop .inv .1, start .pre .0))
+    subst (λ (n : ℕ). 2 * l .loop .i + 1 < n) (sym (length-set (l .loop .out) (2 * l .loop .i) _)) (omega (arith, c .before .before .loop-test .taken, l .loop .inv .1, start .pre .0))
 
 add-i : tie.Need-add-i Inv-loop μ-loop
 add-i c = search needs
 
 loop-less : tie.Need-loop-less Inv-loop μ-loop
 loop-less c = search needs
+
+-- two writes keep the length, whatever is written
+set-twice : (l : List Float) (i j : ℕ) (x y : Float) → length (set (set l i x) j y) ≡ length l
+set-twice l i j x y = length-set (set l i x) j y ∙ length-set l i x
 
 loop-again : tie.Need-loop-again Inv-loop μ-loop
 loop-again c =
@@ -68,7 +74,7 @@ loop-again c =
     let inv = l .loop .inv in
     let is = c .clamped .ensures ∙ ap clamped (c .before .frame-at .ensures) in (
       omega (arith, h),
-      length-set (set (l .loop .out) (2 * l .loop .i) (c .clamped .result .left)) (2 * l .loop .i + 1) (c .clamped .result .right) ∙ length-set (l .loop .out) (2 * l .loop .i) (c .clamped .result .left) ∙ inv .1,
+      set-twice (l .loop .out) (2 * l .loop .i) (2 * l .loop .i + 1) _ _ ∙ inv .1,
       begun-next (framePiece 2 (frameAt (scratch 0 (args .frames)) (args .mix .now))) (l .loop .i) (args .out .now) (inv .2)
           (sym (length-frames 2 (frameAt (scratch 0 (args .frames)) (args .mix .now)) (l .loop .i)))
           (ap (channelsOf 2) is) (stereo-put (l .loop .out) (l .loop .i) (c .clamped .result) (omega (arith, h, inv .1, start .pre .0))),
