@@ -28,7 +28,7 @@ abbrev pub absentRouteLine : RouteLine
 absentRouteLine = record { track = 0; send = 0; volume = record { 0 = nan } }
 
 abbrev pub absentSoundLine : SoundLine
-absentSoundLine = record { track = 0; first = 0; count = 0 }
+absentSoundLine = record { track = 0; first = 0; count = 0; from = 0 }
 
 abbrev pub absentOrderLine : OrderLine
 absentOrderLine = record { block = 0; kind = MainVolume; index = 0; target = record { 0 = nan }; «start_time» = Immediate; millis = 0; easing = Linear }

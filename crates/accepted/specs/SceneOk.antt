@@ -1,11 +1,11 @@
 -- What the layers above take from an accepted scene: ranges, references and lengths, of the tables themselves.
 use mathlib.Core.Path.{_≡_}
-use mathlib.Core.List.{List}
 use Prim.Native.Nat.{ℕ, _+_, _*_, _≤_, _<_}
 use lib.Dec.{T}
 use lib.ListN.{getD, length}
-use lib.Ieee.{Float, nan, binary64, fits}
+use lib.Ieee.{nan, binary64, fits}
 use Rattle.limits.specs.Limits.{clockLines, trackLines, sendLines, routeLines, soundLines, orderLines, blockFramesMost, blocksMost, channelsMost, chunkFramesMost}
+use Rattle.recordings.specs.Recordings.{Recordings, recording}
 use Rattle.laws.specs.DecibelRange.{TargetRange}
 use Rattle.laws.specs.FloatBounds.{Within}
 use Rattle.clock.specs.ClockSpeed.{asTicksPerSecond, allowedSpeed}
@@ -71,8 +71,8 @@ pub record SceneOk (s : Scene) : Type 0 where
   pub sounds : (k : ℕ) → k < s .«sound_count» → soundLine s k .track ≤ s .«track_count»
   pub orders : (i : ℕ) → i < s .«order_count» → OrderOk s (orderLine s i)
 
-pub record SamplesOk (s : Scene) (input : List Float) : Type 0 where
-  -- a sound's frames are there
-  pub sounds : (k : ℕ) → k < s .«sound_count» → 2 * (soundLine s k .first + soundLine s k .count) ≤ length input
-  -- every sample is finite and from -1 to 1
-  pub within : (i : ℕ) → i < length input → Within (getD input i nan) 1 1
+pub record SamplesOk (s : Scene) (samples : Recordings) : Type 0 where
+  -- a sound's frames are there, in the buffer that it is from
+  pub sounds : (k : ℕ) → k < s .«sound_count» → 2 * (soundLine s k .first + soundLine s k .count) ≤ length (recording samples (soundLine s k .from))
+  -- every sample of both is finite and from -1 to 1
+  pub within : (from i : ℕ) → i < length (recording samples from) → Within (getD (recording samples from) i nan) 1 1

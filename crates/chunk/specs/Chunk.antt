@@ -7,6 +7,7 @@ use lib.IntN.{pos}
 use lib.ListN.{getD, length, replicate}
 use lib.Ieee.{Float, nan, binary32, binary64, div, mul, eq, ofInt}
 use Rattle.limits.specs.Limits.{trackPlaces, sendLines, routeLines, soundLines, chunkFramesMost}
+use Rattle.recordings.specs.Recordings.{Recordings, recording}
 use Rattle.decibels.specs.declared.decibels.Amplitude.{Amplitude}
 use Rattle.decibels.specs.Decibels.{amplitude}
 use Rattle.laws.specs.Loop.{changed}
@@ -30,7 +31,7 @@ abbrev pub absentRouteRow : ChunkRoute
 absentRouteRow = record { track = 0; send = 0; amplitude = record { 0 = nan } }
 
 abbrev pub absentSoundRow : ChunkSound
-absentSoundRow = record { track = 0; start = 0; left = 0 }
+absentSoundRow = record { track = 0; start = 0; left = 0; from = 0 }
 
 -- line j of a table, counted from 0
 abbrev pub trackRow : Chunk → ℕ → ChunkTrack
@@ -90,7 +91,7 @@ pub record ChunkPlaces (c : Chunk) : Type 0 where
   pub routes : length (c .routes) ≡ routeLines
   pub sounds : length (c .sounds) ≡ soundLines
 
-pub record ChunkOk (c : Chunk) (samples : List Float) : Type 0 where
+pub record ChunkOk (c : Chunk) (samples : Recordings) : Type 0 where
   pub short : c .frames ≤ chunkFramesMost
   pub tracks : c .«track_count» ≤ trackPlaces
   pub sends : c .«send_count» ≤ sendLines
@@ -102,6 +103,6 @@ pub record ChunkOk (c : Chunk) (samples : List Float) : Type 0 where
   pub mainLevel : LevelInRange (c .main)
   -- a route's send track is a line, counted from 1
   pub routed : (r : ℕ) → r < c .«route_count» → (1 ≤ routeRow c r .send) × (routeRow c r .send ≤ sendLines)
-  -- what a sound has left lies within the samples
-  pub held : (k : ℕ) → k < c .«sound_count» → 2 * (soundRow c k .start + soundRow c k .left) ≤ length samples
+  -- what a sound has left lies within the buffer that it is from
+  pub held : (k : ℕ) → k < c .«sound_count» → 2 * (soundRow c k .start + soundRow c k .left) ≤ length (recording samples (soundRow c k .from))
   pub arrays : ChunkPlaces c

@@ -32,8 +32,11 @@ routeSendsFrom = routeTracksFrom + routeLines
 abbrev pub soundTracksFrom : ℕ
 soundTracksFrom = routeSendsFrom + routeLines
 
+abbrev pub soundFromsFrom : ℕ
+soundFromsFrom = soundTracksFrom + soundLines
+
 abbrev pub soundStartsFrom : ℕ
-soundStartsFrom = soundTracksFrom + soundLines
+soundStartsFrom = soundFromsFrom + soundLines
 
 abbrev pub soundLeftsFrom : ℕ
 soundLeftsFrom = soundStartsFrom + soundLines
@@ -104,6 +107,7 @@ soundFrom places k =
       track = getD places (soundTracksFrom + k) 0;
       start = getD places (soundStartsFrom + k) 0;
       left = getD places (soundLeftsFrom + k) 0;
+      from = getD places (soundFromsFrom + k) 0;
     }
 
 abbrev pub chunkFrom : List ℕ → List Float → List Float → Chunk
@@ -130,9 +134,10 @@ flag b = cond b 1 0
 unfoldable pub soundPlaces : Chunk → List ℕ
 soundPlaces c =
     column (λ k. soundRow c k .track) soundLines
+    ++ (column (λ k. soundRow c k .from) soundLines
     ++ (column (λ k. soundRow c k .start) soundLines
     ++ (column (λ k. soundRow c k .left) soundLines
-    ++ (c .frames ∷ c .«track_count» ∷ c .«send_count» ∷ c .«route_count» ∷ c .«sound_count» ∷ [])))
+    ++ (c .frames ∷ c .«track_count» ∷ c .«send_count» ∷ c .«route_count» ∷ c .«sound_count» ∷ []))))
 
 unfoldable pub placesOf : Chunk → List ℕ
 placesOf c =

@@ -37,12 +37,13 @@ pub struct ChunkRoute {
     pub amplitude: Amplitude,
 }
 
-// What a sound still has to play: `left` frames of the sample buffer from `start` on. The track is a
-// line number from 1, or 0 for the main track.
+// What a sound still has to play: `left` frames from `start` on, of the buffer that it is from. The
+// track is a line number from 1, or 0 for the main track.
 pub struct ChunkSound {
     pub track: usize,
     pub start: usize,
     pub left: usize,
+    pub from: usize,
 }
 
 pub struct Chunk {

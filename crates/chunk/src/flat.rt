@@ -32,7 +32,9 @@ const ROUTE_SENDS: usize = ROUTE_TRACKS + ROUTE_LINES;
 
 pub const SOUND_TRACKS: usize = ROUTE_SENDS + ROUTE_LINES;
 
-pub const SOUND_STARTS: usize = SOUND_TRACKS + SOUND_LINES;
+const SOUND_FROMS: usize = SOUND_TRACKS + SOUND_LINES;
+
+pub const SOUND_STARTS: usize = SOUND_FROMS + SOUND_LINES;
 
 pub const SOUND_LEFTS: usize = SOUND_STARTS + SOUND_LINES;
 
@@ -122,6 +124,7 @@ pub fn sound_at(places: &Places, levels: &Levels, amplitudes: &Amplitudes, k: us
         track: places[SOUND_TRACKS + k],
         start: places[SOUND_STARTS + k],
         left: places[SOUND_LEFTS + k],
+        from: places[SOUND_FROMS + k],
     }
 }
 
@@ -197,12 +200,13 @@ fn flatten_routes(chunk: Chunk, places: &mut Places, amplitudes: &mut Amplitudes
 
 fn flatten_sounds(chunk: Chunk, places: &mut Places)
     requires { ⌜ length (now places) ≡ placesSize ⌝ }
-    ensures { λ _. ⌜ Written 0 (placesOf chunk) soundTracksFrom (3 * soundLines) (now (places .entry)) (now (places .exit)) ⌝ }
+    ensures { λ _. ⌜ Written 0 (placesOf chunk) soundTracksFrom (4 * soundLines) (now (places .entry)) (now (places .exit)) ⌝ }
 {
     let mut k = 0;
     while k < SOUND_LINES {
         let sound = chunk.sounds[k];
         places[SOUND_TRACKS + k] = sound.track;
+        places[SOUND_FROMS + k] = sound.from;
         places[SOUND_STARTS + k] = sound.start;
         places[SOUND_LEFTS + k] = sound.left;
         k += 1;

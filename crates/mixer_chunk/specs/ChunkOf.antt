@@ -36,7 +36,7 @@ chunkRoute line p = record { track = line .track; send = line .send; amplitude =
 
 -- what a sound has left to play
 unfoldable pub chunkSound : SoundLine → ℕ → ChunkSound
-chunkSound line done = record { track = line .track; start = line .first + done; left = line .count - done }
+chunkSound line done = record { track = line .track; start = line .first + done; left = line .count - done; from = line .from }
 
 -- ---- places with no line
 
@@ -50,7 +50,7 @@ unfoldable pub emptyRouteRow : ChunkRoute
 emptyRouteRow = record { track = 0; send = 0; amplitude = record { 0 = ofInt binary32 (pos 0) } }
 
 unfoldable pub emptySoundRow : ChunkSound
-emptySoundRow = record { track = 0; start = 0; left = 0 }
+emptySoundRow = record { track = 0; start = 0; left = 0; from = 0 }
 
 -- ---- the chunk
 

@@ -88,6 +88,7 @@ fn chunk_sound(line: SoundLine, done: usize) -> ChunkSound
         track: line.track,
         start: line.first + done,
         left: line.count - done,
+        from: line.from,
     }
 }
 
@@ -171,6 +172,7 @@ fn chunk_sounds(
         track: 0,
         start: 0,
         left: 0,
+        from: 0,
     };
     let mut chunk = [none; SOUND_LINES];
     let mut k = 0;

@@ -1,11 +1,11 @@
 -- When a pause is over, by the input alone (docs/PAUSES.md). Lines, blocks and the chunks of a block are counted from 0, the chunks from an order on from 1.
 use mathlib.Core.Path.{_≡_}
 use mathlib.Core.Bool.{Bool, true, cond}
-use mathlib.Core.List.{List}
 use Prim.Native.Nat.{ℕ, suc, _+_, _-_, _*_, _/_, _%_, _≤_, _<_}
 use lib.Dec.{T}
 use lib.Ieee.{Float, binary64, add, le}
 use Rattle.limits.specs.Limits.{trackDepth}
+use Rattle.recordings.specs.Recordings.{Recordings}
 use Rattle.laws.specs.Loop.{upto}
 use Rattle.laws.specs.Float.{posZero}
 use Rattle.rounding.specs.Duration.{secsFromMillis}
@@ -64,7 +64,7 @@ abbrev pub stateIn : Scene → ℕ → ℕ → ℕ → PlaybackState
 stateIn s t b k = stateOf (mixerIn s b k .tracks) t .playback .state
 
 -- the track is paused in chunk k of block b, once updated, and all its frames are zero
-pub record PausedIn (s : Scene) (samples : List Float) (t b k : ℕ) : Type 0 where
+pub record PausedIn (s : Scene) (samples : Recordings) (t b k : ℕ) : Type 0 where
   pub state : stateIn s t b k ≡ Paused
   pub frames : (i : ℕ) → trackFrame trackDepth (chunkIn s b k) samples (suc t) i ≡ zeroFrame
 

@@ -1,4 +1,4 @@
-// The render program's meaning: what it prints, over the bytes of its two files.
+// The render program's meaning: what it prints, over the bytes of its three files.
 mod files;
 mod print;
 mod program;

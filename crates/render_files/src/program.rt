@@ -1,4 +1,4 @@
-// The program: reads scene.txt and samples.raw and prints the output or the refusal. What it prints is said in files.rt; what is
+// The program: reads scene.txt, samples.raw and visitor.raw and prints the output or the refusal. What it prints is said in files.rt; what is
 // read and written no contract can say.
 ghost use Rattle.io.specs.Counts.{Counts};
 use crate::files::SAMPLE_BYTES;
@@ -23,9 +23,11 @@ fn read_file(path: &[u8], buffer: &mut [u8]) -> usize
 pub fn run() {
     let mut scene = [0u8; SCENE_BYTES];
     let mut samples = [0u8; SAMPLE_BYTES];
+    let mut visitor = [0u8; SAMPLE_BYTES];
     let mut text = [0u8; TEXT];
     let m = read_file(b"scene.txt", &mut scene);
     let n = read_file(b"samples.raw", &mut samples);
-    let length = render_read(&scene, m, &samples, n, &mut text);
+    let v = read_file(b"visitor.raw", &mut visitor);
+    let length = render_read(&scene, m, &samples, n, &visitor, v, &mut text);
     io::write_all(STDOUT_FILENO, &text[..length]);
 }

@@ -1,4 +1,4 @@
-// samples.raw: f32 numbers, little-endian.
+// samples.raw and visitor.raw: f32 numbers, little-endian.
 ghost use mathlib.Core.Path.{_≡_};
 ghost use Prim.Native.Nat.{_/_};
 ghost use lib.ListN.{length};

@@ -5,6 +5,7 @@ use lib.Ieee.{Float, binary32, add, div, ofInt}
 use mathlib.Core.Bool.{cond}
 use lib.Dec.{eqb, ltb}
 use lib.IntN.{pos}
+use Rattle.recordings.specs.Recordings.{Recordings}
 use Rattle.laws.specs.Pieces.{pieces}
 use Rattle.scene.specs.declared.scene.Head.{Head}
 use Rattle.scene.specs.declared.scene.Scene.{Scene}
@@ -70,15 +71,15 @@ unfoldable pub channelsOf : ℕ → Frame → List Float
 channelsOf channels a = pieces (λ c. channelAt channels a c ∷ []) channels
 
 -- chunk k, from the mixer once updated in it: each frame of the mix is clamped, then folded
-unfoldable pub chunkSamples : Scene → List Float → ℕ → Mixer → List Float
+unfoldable pub chunkSamples : Scene → Recordings → ℕ → Mixer → List Float
 chunkSamples s samples k m =
     let n = chunkFrames (s .head) k in
     pieces (λ i. channelsOf (s .head .channels) (clamped (mixedFrame (chunkOf s n m) samples i))) n
 
 -- a block, from the mixer once its orders are read
-unfoldable pub blockSamples : Scene → List Float → Mixer → List Float
+unfoldable pub blockSamples : Scene → Recordings → Mixer → List Float
 blockSamples s samples m = pieces (λ k. chunkSamples s samples k (inChunk s k (chunksDone s k m))) (chunkCount (s .head))
 
 -- the show
-unfoldable pub rendered : Scene → List Float → List Float
+unfoldable pub rendered : Scene → Recordings → List Float
 rendered s samples = pieces (λ b. blockSamples s samples (mixerOrdered s b (mixerAt s b))) (s .head .blocks)

@@ -6,25 +6,25 @@ use Prim.Native.Nat.{ℕ}
 use lib.Dec.{eqb}
 use lib.ListN.{length}
 use lib.Ieee.{Float}
-use Rattle.laws.specs.Float.{AreF32}
+use Rattle.recordings.specs.Recordings.{Recordings}
 use Rattle.scene_file.specs.Grammar.{tablesOf}
 use Rattle.scene_questions.specs.Questions.{answer}
 use Rattle.scene.specs.Scene.{sceneOf}
 use Rattle.renderer.specs.Renderer.{rendered}
 use Rattle.noninterference.specs.Removed.{Choice}
-use Rattle.noninterference.specs.Alike.{alike}
+use Rattle.noninterference.specs.Alike.{AreSamples, alike}
 
 -- The output after the call: the render where the questions accept, and what it held where they don't.
-unfoldable pub outputOf : List ℕ → List Float → List Float → List Float
+unfoldable pub outputOf : List ℕ → Recordings → List Float → List Float
 outputOf file samples output = cond (eqb (answer file samples (length output)) 0) (rendered (sceneOf (tablesOf file)) samples) output
 
 -- What lies inside silent tracks is not heard. `written` is what a call with this file, these samples and this output left in the output: every other
 -- accepted scene that is alike but for what lies inside the chosen tracks has the same one, for every choice of tracks in either.
-abbrev pub InsideUnheard : List ℕ → List Float → List Float → List Float → Type 0
+abbrev pub InsideUnheard : List ℕ → Recordings → List Float → List Float → Type 0
 InsideUnheard file samples output written =
-    (other : List ℕ) (recordings there : List Float) (chosen others : Choice)
-    → AreF32 recordings
+    (other : List ℕ) (heard : Recordings) (there : List Float) (chosen others : Choice)
+    → AreSamples heard
     → answer file samples (length output) ≡ 0
-    → answer other recordings (length there) ≡ 0
-    → alike (tablesOf file) samples chosen (tablesOf other) recordings others ≡ true
-    → written ≡ outputOf other recordings there
+    → answer other heard (length there) ≡ 0
+    → alike (tablesOf file) samples chosen (tablesOf other) heard others ≡ true
+    → written ≡ outputOf other heard there

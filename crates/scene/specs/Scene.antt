@@ -81,7 +81,13 @@ unfoldable pub routeOf : List ℕ → RouteLine
 routeOf row = record { track = natural (field row (routeColumn .track)); send = natural (field row (routeColumn .send)); volume = volumeOf (field row (routeColumn .volume)) }
 
 unfoldable pub soundOf : List ℕ → SoundLine
-soundOf row = record { track = natural (field row (soundColumn .track)); first = natural (field row (soundColumn .first)); count = natural (field row (soundColumn .count)) }
+soundOf row =
+    record {
+      track = natural (field row (soundColumn .track));
+      first = natural (field row (soundColumn .first));
+      count = natural (field row (soundColumn .count));
+      from = natural (field row (soundColumn .from));
+    }
 
 unfoldable pub orderOf : List ℕ → OrderLine
 orderOf row =

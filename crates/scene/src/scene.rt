@@ -72,11 +72,13 @@ pub struct RouteLine {
     pub volume: Decibels,
 }
 
-// The track is a line number, counted from 1, or 0 for the main track; first and count are frames.
+// The track is a line number, counted from 1, or 0 for the main track; first and count are frames of the
+// buffer that the sound is from.
 pub struct SoundLine {
     pub track: usize,
     pub first: usize,
     pub count: usize,
+    pub from: usize,
 }
 
 pub enum OrderKind {
@@ -253,6 +255,7 @@ fn sound_line_of(values: &[u32], a: usize) -> SoundLine
         track: natural_of(at(values, a, column::SOUND_TRACK)),
         first: natural_of(at(values, a, column::SOUND_FIRST)),
         count: natural_of(at(values, a, column::SOUND_COUNT)),
+        from: natural_of(at(values, a, column::SOUND_FROM)),
     }
 }
 

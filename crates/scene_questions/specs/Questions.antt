@@ -8,6 +8,7 @@ use lib.IntN.{pos}
 use lib.ListN.{length, getD}
 use lib.Ieee.{Float, nan, binary32, binary64, ofInt, div, le, neg}
 use Rattle.limits.specs.Limits.{fileBytes, trackDepth}
+use Rattle.recordings.specs.Recordings.{Recordings, fromHouse, fromVisitor}
 use Rattle.clock.specs.declared.clock_speed.ClockSpeed.{ClockSpeed}
 use Rattle.clock.specs.declared.clock_speed.ClockSpeed.the-variants.{SecondsPerTick, TicksPerSecond, TicksPerMinute}
 use Rattle.clock.specs.ClockSpeed.{allowedSpeed}
@@ -174,15 +175,17 @@ newPair rows i = every i (λ k. not (samePair rows i k))
 unfoldable pub routesFit : List (List ℕ) → Bool
 routesFit rows = every (length rows) (newPair rows)
 
--- ---- 8. Has the sample buffer an even length, and does each sound's first + count stay within its frames?
+-- ---- 8. Has the sample buffer an even length, and does the first + count of each sound from it stay within its frames?
 
-unfoldable pub soundFits : List (List ℕ) → ℕ → ℕ → Bool
-soundFits rows frames i = leb (natural (cell rows i (soundColumn .first)) + natural (cell rows i (soundColumn .count))) frames
+-- a sound from another buffer fits
+unfoldable pub soundFits : List (List ℕ) → ℕ → ℕ → ℕ → Bool
+soundFits rows from frames i =
+    cond (eqb (natural (cell rows i (soundColumn .from))) from) (leb (natural (cell rows i (soundColumn .first)) + natural (cell rows i (soundColumn .count))) frames) true
 
--- of a sample list by name: a frame is two samples
-unfoldable pub soundsFit : List (List ℕ) → List Float → Bool
-soundsFit rows samples =
-    eqb (length samples % 2) 0 && every (length rows) (soundFits rows (length samples / 2))
+-- of one buffer: a frame is two samples
+unfoldable pub soundsFit : List (List ℕ) → ℕ → List Float → Bool
+soundsFit rows from samples =
+    eqb (length samples % 2) 0 && every (length rows) (soundFits rows from (length samples / 2))
 
 -- ---- 9. Is every sample finite and in -1.0..1.0?
 
@@ -209,20 +212,23 @@ unfoldable pub firstNo : List Question → ℕ
 firstNo [] = 0
 firstNo (question ∷ questions) = cond (question .1) (firstNo questions) (question .0)
 
-unfoldable pub tableQuestions : Tables → List Float → List Question
+-- questions 8 and 9 are each asked of the house's samples, then of the visitor's
+unfoldable pub tableQuestions : Tables → Recordings → List Question
 tableQuestions ts samples =
     (3, linesOk ts)
     ∷ (4, rangesOk ts)
     ∷ (5, referencesOk ts)
     ∷ (6, depthsFit (rowsAt ts tracks))
     ∷ (7, routesFit (rowsAt ts routes))
-    ∷ (8, soundsFit (rowsAt ts sounds) samples)
-    ∷ (9, samplesOk samples)
+    ∷ (8, soundsFit (rowsAt ts sounds) fromHouse (samples .house))
+    ∷ (8, soundsFit (rowsAt ts sounds) fromVisitor (samples .visitor))
+    ∷ (9, samplesOk (samples .house))
+    ∷ (9, samplesOk (samples .visitor))
     ∷ []
 
 -- questions 1 to 9, of a file and its samples
-unfoldable pub inputQuestions : List ℕ → List Float → List Question
+unfoldable pub inputQuestions : List ℕ → Recordings → List Question
 inputQuestions file samples = (1, sizeOk file) ∷ (2, spelledOk file) ∷ tableQuestions (tablesOf file) samples
 
-unfoldable pub answer : List ℕ → List Float → ℕ → ℕ
+unfoldable pub answer : List ℕ → Recordings → ℕ → ℕ
 answer file samples output = firstNo (inputQuestions file samples ++ ((10, eqb output (outputLength (tablesOf file))) ∷ []))

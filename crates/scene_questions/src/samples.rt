@@ -6,22 +6,45 @@ ghost use lib.ListN.{length, getD};
 ghost use lib.Ieee.{nan};
 ghost use Rattle.laws.specs.Count.{counted, ifPicked};
 ghost use Rattle.scene_tables.specs.Tables.{tableAt, width, sounds};
-ghost use Rattle.scene_questions.specs.Questions.{soundsFit, sampleOk, samplesOk};
+ghost use Rattle.scene_questions.specs.Questions.{soundFits, soundsFit, sampleOk, samplesOk};
 ghost use Rattle.scene_questions.specs.Places.{rowsIn, placesMost, runMost};
 use scene_file::at;
 use scene_file::natural_of;
 use scene_tables::column::SOUND_COLUMNS;
 use scene_tables::column::SOUND_COUNT;
 use scene_tables::column::SOUND_FIRST;
+use scene_tables::column::SOUND_FROM;
 
 // Samples that are asked after at once: few enough for a count to be a u32, many enough for a loop that
 // is vectorised.
 const RUN: usize = 4096;
 
-// Question 8.
-pub fn sounds_fit(values: &[u32], start: usize, lines: usize, samples: &[f32]) -> bool
+// Whether a sound's frames are there, if it is from this buffer.
+fn sound_fits(
+    values: &[u32],
+    start: usize,
+    lines: usize,
+    from: usize,
+    frames: usize,
+    i: usize,
+) -> bool
     requires { ⌜ start + lines * width (tableAt sounds) ≤ placesMost ⌝ }
-    ensures { λ r. ⌜ r ≡ soundsFit (rowsIn (now (values .entry)) start (width (tableAt sounds)) lines) (now (samples .entry)) ⌝ }
+    requires { ⌜ i < lines ⌝ }
+    ensures { λ r. ⌜ r ≡ soundFits (rowsIn (now (values .entry)) start (width (tableAt sounds)) lines) from frames i ⌝ }
+{
+    let a = start + i * SOUND_COLUMNS;
+    if natural_of(at(values, a, SOUND_FROM)) != from {
+        return true;
+    }
+    let first = natural_of(at(values, a, SOUND_FIRST));
+    let count = natural_of(at(values, a, SOUND_COUNT));
+    first + count <= frames
+}
+
+// Question 8, of the sounds from this buffer.
+pub fn sounds_fit(values: &[u32], start: usize, lines: usize, from: usize, samples: &[f32]) -> bool
+    requires { ⌜ start + lines * width (tableAt sounds) ≤ placesMost ⌝ }
+    ensures { λ r. ⌜ r ≡ soundsFit (rowsIn (now (values .entry)) start (width (tableAt sounds)) lines) from (now (samples .entry)) ⌝ }
 {
     if samples.len() % 2 != 0 {
         return false;
@@ -29,10 +52,7 @@ pub fn sounds_fit(values: &[u32], start: usize, lines: usize, samples: &[f32]) -
     let frames = samples.len() / 2;
     let mut i = 0;
     while i < lines {
-        let a = start + i * SOUND_COLUMNS;
-        let first = natural_of(at(values, a, SOUND_FIRST));
-        let count = natural_of(at(values, a, SOUND_COUNT));
-        if frames < first + count {
+        if !sound_fits(values, start, lines, from, frames, i) {
             return false;
         }
         i += 1;

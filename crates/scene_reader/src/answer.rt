@@ -1,13 +1,16 @@
 // The answer to a file, its samples and an output's length.
 ghost use mathlib.Core.Path.{_≡_};
 ghost use mathlib.Core.Bool.{_&&_};
-ghost use Prim.Native.Nat.{_+_, _-_, _*_, _≤_};
+ghost use Prim.Native.Nat.{_+_, _*_, _≤_, _<_};
 ghost use Rattle.limits.specs.Limits.{blockFramesMost, blocksMost, channelsMost};
+ghost use Rattle.recordings.specs.Recordings.{recordings};
 ghost use Rattle.scene_tables.specs.Tables.{tableAt, width, sounds, headColumn};
-ghost use Rattle.scene_questions.specs.Questions.{headCell, soundsFit, firstNo, tableQuestions, inputQuestions, answer};
+ghost use Rattle.scene_questions.specs.Questions.{headCell, soundsFit, firstNo, answer};
 ghost use Rattle.scene_questions.specs.Places.{rowsIn, stored, placesMost, Low, questionAt};
-ghost use Rattle.scene_reader.specs.Answer.{also, refusal, answered, firstOfTables, lastOfTables};
+ghost use Rattle.scene_reader.specs.Answer.{questionsOfTables, houseSounds, readTableQuestions, readQuestions, refusal, answered};
 use limits::FILE_BYTES;
+use recordings::HOUSE;
+use recordings::VISITOR;
 use scene::Head;
 use scene::Scene;
 use scene::no_scene;
@@ -31,10 +34,11 @@ use scene_tables::column;
 // Numbers that a file can have: each takes two bytes or more.
 const VALUES: usize = FILE_BYTES / 2 + 1;
 
-// The questions that are asked of the tables.
-const FIRST: u32 = 3;
+// The questions that are asked of the tables, by their numbers. Questions 8 and 9 are each asked of the
+// house's samples, then of the visitor's.
+const QUESTIONS: usize = 9;
 
-const LAST: u32 = 9;
+const NUMBERS: [u32; QUESTIONS] = [3, 4, 5, 6, 7, 8, 8, 9, 9];
 
 // The number of the first question that says no, and the scene where it is 0.
 pub struct Answer {
@@ -52,66 +56,123 @@ fn blocks_of(values: &[u32], starts: &[usize; TABLES], counts: &[usize; TABLES])
     at(values, starts[HEAD], column::HEAD_BLOCKS)
 }
 
-// Question 8, and whether the samples are whole.
-fn sounds_pass(whole: bool, values: &[u32], start: usize, lines: usize, samples: &[f32]) -> bool
+// Question 8 of one buffer, and whether its samples are whole.
+fn sounds_pass(
+    whole: bool,
+    values: &[u32],
+    start: usize,
+    lines: usize,
+    from: usize,
+    samples: &[f32],
+) -> bool
     requires { ⌜ start + lines * width (tableAt sounds) ≤ placesMost ⌝ }
-    ensures { λ r. ⌜ r ≡ (whole && soundsFit (rowsIn (now (values .entry)) start (width (tableAt sounds)) lines) (now (samples .entry))) ⌝ }
+    ensures { λ r. ⌜ r ≡ (whole && soundsFit (rowsIn (now (values .entry)) start (width (tableAt sounds)) lines) from (now (samples .entry))) ⌝ }
 {
     if whole {
-        return sounds_fit(values, start, lines, samples);
+        return sounds_fit(values, start, lines, from, samples);
     }
     false
 }
 
-// Whether a question of the tables says yes.
-fn passes(
-    question: u32,
+// Whether the question at a place, counted from 0, says yes: one of those that look at the samples.
+fn samples_pass<'a>(
+    place: usize,
     values: &[u32],
     starts: &[usize; TABLES],
     counts: &[usize; TABLES],
-    samples: &[f32],
+    samples: &'a [f32],
+    visitor: &'a [f32],
     whole: bool,
+    visitor_whole: bool,
 ) -> bool
     requires { ⌜ Low (now starts) (now counts) ⌝ }
-    requires { ⌜ (firstOfTables ≤ question) × (question ≤ lastOfTables) ⌝ }
+    requires { ⌜ (houseSounds ≤ place) × (place < questionsOfTables) ⌝ }
     ensures { λ r. ⌜ (let tables = stored (now (starts .entry)) (now (counts .entry)) (now (values .entry)) in
-        r ≡ questionAt (also 8 whole (tableQuestions tables (now (samples .entry)))) (question - firstOfTables) .1) ⌝ }
+        let heard = recordings (now (samples .entry)) (now (visitor .entry)) in
+        r ≡ questionAt (readTableQuestions tables heard whole «visitor_whole») place .1) ⌝ }
 {
-    match question {
-        3 => counts_fit(counts),
-        4 => tables_pass(
+    let start = starts[SOUNDS];
+    let lines = counts[SOUNDS];
+    match place {
+        5 => sounds_pass(whole, values, start, lines, HOUSE, samples),
+        6 => sounds_pass(visitor_whole, values, start, lines, VISITOR, visitor),
+        7 => samples_ok(samples),
+        _ => samples_ok(visitor),
+    }
+}
+
+// Whether the question at a place, counted from 0, says yes.
+fn passes<'a>(
+    place: usize,
+    values: &[u32],
+    starts: &[usize; TABLES],
+    counts: &[usize; TABLES],
+    samples: &'a [f32],
+    visitor: &'a [f32],
+    whole: bool,
+    visitor_whole: bool,
+) -> bool
+    requires { ⌜ Low (now starts) (now counts) ⌝ }
+    requires { ⌜ place < questionsOfTables ⌝ }
+    ensures { λ r. ⌜ (let tables = stored (now (starts .entry)) (now (counts .entry)) (now (values .entry)) in
+        let heard = recordings (now (samples .entry)) (now (visitor .entry)) in
+        r ≡ questionAt (readTableQuestions tables heard whole «visitor_whole») place .1) ⌝ }
+{
+    match place {
+        0 => counts_fit(counts),
+        1 => tables_pass(
             false,
             values,
             starts,
             counts,
             blocks_of(values, starts, counts),
         ),
-        5 => tables_pass(true, values, starts, counts, 0),
-        6 => depths_fit(values, starts[TRACKS], counts[TRACKS]),
-        7 => routes_fit(values, starts[ROUTES], counts[ROUTES]),
-        8 => sounds_pass(whole, values, starts[SOUNDS], counts[SOUNDS], samples),
-        _ => samples_ok(samples),
+        2 => tables_pass(true, values, starts, counts, 0),
+        3 => depths_fit(values, starts[TRACKS], counts[TRACKS]),
+        4 => routes_fit(values, starts[ROUTES], counts[ROUTES]),
+        _ => samples_pass(
+            place,
+            values,
+            starts,
+            counts,
+            samples,
+            visitor,
+            whole,
+            visitor_whole,
+        ),
     }
 }
 
-// The first question of the tables that says no, or 0.
-fn first_no(
+// The number of the first question of the tables that says no, or 0.
+fn first_no<'a>(
     values: &[u32],
     starts: &[usize; TABLES],
     counts: &[usize; TABLES],
-    samples: &[f32],
+    samples: &'a [f32],
+    visitor: &'a [f32],
     whole: bool,
+    visitor_whole: bool,
 ) -> u32
     requires { ⌜ Low (now starts) (now counts) ⌝ }
     ensures { λ r. ⌜ (let tables = stored (now (starts .entry)) (now (counts .entry)) (now (values .entry)) in
-        r ≡ firstNo (also 8 whole (tableQuestions tables (now (samples .entry))))) ⌝ }
+        let heard = recordings (now (samples .entry)) (now (visitor .entry)) in
+        r ≡ firstNo (readTableQuestions tables heard whole «visitor_whole»)) ⌝ }
 {
-    let mut question = FIRST;
-    while question <= LAST {
-        if !passes(question, values, starts, counts, samples, whole) {
-            return question;
+    let mut place = 0;
+    while place < QUESTIONS {
+        if !passes(
+            place,
+            values,
+            starts,
+            counts,
+            samples,
+            visitor,
+            whole,
+            visitor_whole,
+        ) {
+            return NUMBERS[place];
         }
-        question += 1;
+        place += 1;
     }
     0
 }
@@ -123,9 +184,16 @@ fn refused(number: u32) -> Answer
     Answer { number, scene }
 }
 
-// Questions 1 to 9, question 8 with a further test. The scene where none says no.
-pub fn read_input(file: &[u8], samples: &[f32], whole: bool) -> Answer
-    ensures { λ r. ⌜ r ≡ answered (now (file .entry)) (firstNo (also 8 whole (inputQuestions (now (file .entry)) (now (samples .entry))))) ⌝ }
+// Questions 1 to 9, of samples that may have been cut short. The scene where none says no.
+pub fn read_input<'a>(
+    file: &[u8],
+    samples: &'a [f32],
+    visitor: &'a [f32],
+    whole: bool,
+    visitor_whole: bool,
+) -> Answer
+    ensures { λ r. ⌜ (let heard = recordings (now (samples .entry)) (now (visitor .entry)) in
+        r ≡ answered (now (file .entry)) (firstNo (readQuestions (now (file .entry)) heard whole «visitor_whole»))) ⌝ }
 {
     if !size_ok(file) {
         return refused(1);
@@ -137,7 +205,15 @@ pub fn read_input(file: &[u8], samples: &[f32], whole: bool) -> Answer
     }
     let starts = layout.starts;
     let counts = layout.counts;
-    let number = first_no(&values, &starts, &counts, samples, whole);
+    let number = first_no(
+        &values,
+        &starts,
+        &counts,
+        samples,
+        visitor,
+        whole,
+        visitor_whole,
+    );
     if number != 0 {
         return refused(number);
     }
@@ -156,10 +232,11 @@ fn output_length(head: Head) -> usize
 }
 
 // The number of the first question that says no, or 0 and the scene.
-pub fn read_scene(file: &[u8], samples: &[f32], output: usize) -> Answer
-    ensures { λ r. ⌜ r ≡ answered (now (file .entry)) (answer (now (file .entry)) (now (samples .entry)) output) ⌝ }
+pub fn read_scene<'a>(file: &[u8], samples: &'a [f32], visitor: &'a [f32], output: usize) -> Answer
+    ensures { λ r. ⌜ (let heard = recordings (now (samples .entry)) (now (visitor .entry)) in
+        r ≡ answered (now (file .entry)) (answer (now (file .entry)) heard output)) ⌝ }
 {
-    let answer = read_input(file, samples, true);
+    let answer = read_input(file, samples, visitor, true, true);
     if answer.number != 0 {
         return answer;
     }

@@ -2,6 +2,7 @@
 ghost use mathlib.Core.Path.{_≡_};
 ghost use Prim.Native.Nat.{_-_, _*_, _≤_};
 ghost use lib.ListN.{length};
+ghost use Rattle.recordings.specs.Recordings.{recordings};
 ghost use Rattle.limits.specs.Limits.{chunkFramesMost, blockFramesMost};
 ghost use Rattle.accepted.specs.SceneOk.{SceneOk, SamplesOk};
 ghost use Rattle.renderer.specs.Renderer.{chunkCount, chunkFrames, rendered};
@@ -18,11 +19,11 @@ fn last_frames(head: Head) -> usize
 }
 
 // An accepted scene: block by block, or, where the mixer stands still, up to the next orders at once.
-pub fn render_scene(scene: Scene, samples: &[f32], output: &mut [f32])
+pub fn render_scene<'a>(scene: Scene, samples: &'a [f32], visitor: &'a [f32], output: &mut [f32])
     requires { ⌜ SceneOk scene ⌝ }
-    requires { ⌜ SamplesOk scene (now samples) ⌝ }
+    requires { ⌜ SamplesOk scene (recordings (now samples) (now visitor)) ⌝ }
     requires { ⌜ length (now output) ≡ scene .head .block * scene .head .blocks * scene .head .channels ⌝ }
-    ensures { λ _. ⌜ now (output .exit) ≡ rendered scene (now (samples .entry)) ⌝ }
+    ensures { λ _. ⌜ now (output .exit) ≡ rendered scene (recordings (now (samples .entry)) (now (visitor .entry))) ⌝ }
 {
     let table = gain_table::gain_table();
     let head = scene.head;
@@ -41,6 +42,7 @@ pub fn render_scene(scene: Scene, samples: &[f32], output: &mut [f32])
                 mixer,
                 scene,
                 samples,
+                visitor,
                 &table,
                 &full,
                 &last,
@@ -50,7 +52,14 @@ pub fn render_scene(scene: Scene, samples: &[f32], output: &mut [f32])
             mixer = run.mixer;
             b = run.block;
         } else {
-            mixer = renderer::process_block(mixer, scene, samples, &table, &mut output[from..to]);
+            mixer = renderer::process_block(
+                mixer,
+                scene,
+                samples,
+                visitor,
+                &table,
+                &mut output[from..to],
+            );
             b += 1;
         }
     }

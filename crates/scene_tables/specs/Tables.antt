@@ -78,7 +78,7 @@ tables =
     ∷ table "parent volume" 0 trackLines Plain (Earlier ∷ volume ∷ [])
     ∷ table "volume" 0 sendLines Plain (volume ∷ [])
     ∷ table "track send volume" 0 routeLines Plain (Line tracks (raised 1) ∷ Line sends (raised 1) ∷ volume ∷ [])
-    ∷ table "track first count" 0 soundLines Plain (Line tracks (raised 0) ∷ within 0 2147483647 ∷ within 0 2147483647 ∷ [])
+    ∷ table "track first count from" 0 soundLines Plain (Line tracks (raised 0) ∷ within 0 2147483647 ∷ within 0 2147483647 ∷ within 0 1 ∷ [])
     ∷ table "block kind index volume clock when part millis easing power" 0 orderLines Order
     (within 0 1023
     ∷ within 0 5
@@ -119,8 +119,8 @@ sendColumn = record { volume = 0 }
 abbrev pub routeColumn : record { track : ℕ; send : ℕ; volume : ℕ }
 routeColumn = record { track = 0; send = 1; volume = 2 }
 
-abbrev pub soundColumn : record { track : ℕ; first : ℕ; count : ℕ }
-soundColumn = record { track = 0; first = 1; count = 2 }
+abbrev pub soundColumn : record { track : ℕ; first : ℕ; count : ℕ; from : ℕ }
+soundColumn = record { track = 0; first = 1; count = 2; from = 3 }
 
 abbrev pub orderColumn : record { block : ℕ; kind : ℕ; index : ℕ; volume : ℕ; clock : ℕ; when : ℕ; part : ℕ; millis : ℕ; easing : ℕ; power : ℕ }
 orderColumn = record { block = 0; kind = 1; index = 2; volume = 3; clock = 4; when = 5; part = 6; millis = 7; easing = 8; power = 9 }

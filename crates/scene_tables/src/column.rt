@@ -46,7 +46,9 @@ pub const SOUND_FIRST: usize = 1;
 
 pub const SOUND_COUNT: usize = 2;
 
-pub const SOUND_COLUMNS: usize = 3;
+pub const SOUND_FROM: usize = 3;
+
+pub const SOUND_COLUMNS: usize = 4;
 
 pub const ORDER_BLOCK: usize = 0;
 

@@ -83,11 +83,11 @@ pub const KIND_PAUSE: u32 = ZERO + 4;
 pub const KIND_RESUME: u32 = ZERO + 5;
 
 // The names lines one after the other, each with its line feed.
-pub const NAMES_BYTES: usize = 177;
+pub const NAMES_BYTES: usize = 182;
 
 const NAMES: [u8; NAMES_BYTES] =
     *b"rate channels buffer block blocks volume\nunit speed ticking\nparent volume\nvolume\ntrack send volume\n\
-       track first count\nblock kind index volume clock when part millis easing power\n";
+       track first count from\nblock kind index volume clock when part millis easing power\n";
 
 const RULES: [TableRule; TABLES] = [
     TableRule {
@@ -164,10 +164,11 @@ const FIELDS: [Field; FIELD_COUNT] = [
     Field::Line(TRACKS, ZERO + 1),
     Field::Line(SENDS, ZERO + 1),
     Field::Number(QUIETEST, LOUDEST),
-    // track first count
+    // track first count from
     Field::Line(TRACKS, ZERO),
     Field::Number(ZERO, ZERO + 2147483647),
     Field::Number(ZERO, ZERO + 2147483647),
+    Field::Number(ZERO, ZERO + 1),
     // block kind index volume clock when part millis easing power
     Field::Number(ZERO, ZERO + 1023),
     Field::Number(KIND_MAIN_VOLUME, KIND_RESUME),

@@ -1,5 +1,5 @@
-// Sounds: what one still has to play, as a part of the sample buffer, and the step that adds it onto
-// a sum.
+// Sounds: what one still has to play, as a part of the buffer that it is from, and the step that
+// adds it onto a sum.
 mod sound;
 
 pub use sound::add_sound;

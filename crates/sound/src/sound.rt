@@ -1,8 +1,9 @@
-// A sound: frames of the sample buffer in turn, then zeros. They are added from the sample buffer
+// A sound: frames of the buffer that it is from in turn, then zeros. They are added from that buffer
 // straight onto the sum: nothing is copied in between.
 ghost use mathlib.Core.Path.{_≡_};
 ghost use Prim.Native.Nat.{_+_, _*_, _/_, _≤_};
 ghost use lib.ListN.{length};
+ghost use Rattle.recordings.specs.Recordings.{recordings, recording};
 ghost use Rattle.frame.specs.Frame.{fromFrame};
 ghost use Rattle.frame.specs.Layout.{scratch, withFirst, withFrames};
 ghost use Rattle.sound.specs.Part.{remainingPart, addedPart, addedZero};
@@ -11,15 +12,19 @@ use frame::Frame;
 use frame::frame_at;
 use frame::put_frame;
 use frame::sample_frame;
+use recordings::HOUSE;
 
-// What the sound still has to play: that part of the sample buffer, and no copy of it.
-pub fn remaining<'a>(samples: &'a [f32], sound: ChunkSound) -> &'a [f32]
-    requires { ⌜ 2 * (sound .start + sound .left) ≤ length (now samples) ⌝ }
-    ensures { λ r. ⌜ now r ≡ remainingPart (now (samples .entry)) sound ⌝ }
+// What the sound still has to play: that part of whichever buffer it is from, and no copy of it.
+pub fn remaining<'a>(samples: &'a [f32], visitor: &'a [f32], sound: ChunkSound) -> &'a [f32]
+    requires { ⌜ 2 * (sound .start + sound .left) ≤ length (recording (recordings (now samples) (now visitor)) (sound .from)) ⌝ }
+    ensures { λ r. ⌜ now r ≡ remainingPart (recordings (now (samples .entry)) (now (visitor .entry))) sound ⌝ }
 {
     let start = sound.start;
     let left = sound.left;
-    &samples[2 * start..2 * (start + left)]
+    if sound.from == HOUSE {
+        return &samples[2 * start..2 * (start + left)];
+    }
+    &visitor[2 * start..2 * (start + left)]
 }
 
 // Adds the first `count` frames of the part.

@@ -6,6 +6,7 @@ use Prim.Native.Nat.{ℕ, _+_, _-_, _*_, _^_, _≤_, _<_}
 use lib.Dec.{ltb}
 use lib.ListN.{length, getD}
 use lib.Ieee.{Float}
+use Rattle.recordings.specs.Recordings.{Recordings}
 use Rattle.limits.specs.Limits.{chunkFramesMost, blockFramesMost, channelsMost, rateMost}
 use Rattle.laws.specs.Loop.{upto, changed}
 use Rattle.laws.specs.Pieces.{pieces}
@@ -37,18 +38,18 @@ unfoldable pub stillClocks : Head → ℕ → Clocks → Clocks
 stillClocks h k clocks = upto (λ j c. clocksUpdated c (chunkTime (h .rate) (chunkFrames h j))) k clocks
 
 -- n frames of a chunk's mix: each is clamped, then folded
-unfoldable pub mixedSamples : ℕ → ℕ → Chunk → List Float → List Float
+unfoldable pub mixedSamples : ℕ → ℕ → Chunk → Recordings → List Float
 mixedSamples channels n c samples = pieces (λ i. channelsOf channels (clamped (mixedFrame c samples i))) n
 
 -- chunk k of a block, from the tables before it
-unfoldable pub stillChunk : Head → List Float → List Float → List Float → ℕ → List ℕ → List Float
+unfoldable pub stillChunk : Head → List Float → List Float → Recordings → ℕ → List ℕ → List Float
 stillChunk h levels amplitudes samples k places = let n = chunkFrames h k in mixedSamples (h .channels) n (chunkFrom (framed n places) levels amplitudes) samples
 
-unfoldable pub stillSamples : Head → List ℕ → List Float → List Float → List Float → List Float
+unfoldable pub stillSamples : Head → List ℕ → List Float → List Float → Recordings → List Float
 stillSamples h places levels amplitudes samples = pieces (λ k. stillChunk h levels amplitudes samples k (stillPlaces h k places)) (chunkCount h)
 
 -- what the code of a block asks: every chunk can be mixed, and clocks can move
-pub record StillOk (h : Head) (places : List ℕ) (levels amplitudes samples : List Float) (clocks : Clocks) : Type 0 where
+pub record StillOk (h : Head) (places : List ℕ) (levels amplitudes : List Float) (samples : Recordings) (clocks : Clocks) : Type 0 where
   pub long : length places ≡ placesSize
   pub rate : h .rate ≤ rateMost
   pub channels : h .channels ≤ channelsMost
@@ -76,7 +77,7 @@ unfoldable pub playedBy : Scene → List ℕ → List ℕ → List ℕ
 playedBy s places played = changed (λ k x. soundLine s k .count - getD places (soundLeftsFrom + k) 0) (s .«sound_count») played
 
 -- What the code of a run asks: the mixer, whose orders of block `first` are read, stands still, and its clocks can count the chunks that are left.
-pub record RunOk (s : Scene) (m : Mixer) (first : ℕ) (samples : List Float) : Type 0 where
+pub record RunOk (s : Scene) (m : Mixer) (first : ℕ) (samples : Recordings) : Type 0 where
   pub scene : SceneOk s
   pub there : SamplesOk s samples
   pub inside : first < s .head .blocks

@@ -3,6 +3,7 @@ ghost use mathlib.Core.Path.{_≡_};
 ghost use mathlib.Core.Bool.{cond};
 ghost use Prim.Native.Nat.{_+_, _-_, _*_, _≤_, _<_};
 ghost use lib.ListN.{length, getD};
+ghost use Rattle.recordings.specs.Recordings.{recordings};
 ghost use Rattle.limits.specs.Limits.{channelsMost};
 ghost use Rattle.gain_table.specs.GainTable.{IsGainTable};
 ghost use Rattle.frame.specs.Layout.{scratch, withFrames};
@@ -25,7 +26,7 @@ use scene::Head;
 use track::process_flat;
 
 // The mix of a chunk, by the parts of a full chunk or of a block's last one.
-fn mix_chunk(
+fn mix_chunk<'a>(
     places: &Places,
     levels: &Levels,
     amplitudes: &Amplitudes,
@@ -33,25 +34,44 @@ fn mix_chunk(
     last: &Parts,
     ends: bool,
     table: &GainTable,
-    samples: &[f32],
+    samples: &'a [f32],
+    visitor: &'a [f32],
     mix: &mut [f32],
 )
     requires { ⌜ IsGainTable (now table) ⌝ }
-    requires { ⌜ ChunkOk (chunkFrom (now places) (now levels) (now amplitudes)) (now samples) ⌝ }
+    requires { ⌜ ChunkOk (chunkFrom (now places) (now levels) (now amplitudes)) (recordings (now samples) (now visitor)) ⌝ }
     requires { ⌜ cond ends (now last) (now full) ≡ partsOf (chunkFrom (now places) (now levels) (now amplitudes) .frames) ⌝ }
     requires { ⌜ 2 * chunkFrom (now places) (now levels) (now amplitudes) .frames ≤ length (now mix) ⌝ }
     ensures { λ _. ⌜ (let c = chunkFrom (now (places .entry)) (now (levels .entry)) (now (amplitudes .entry)) in
-        now (mix .exit) ≡ withFrames (scratch 0 (c .frames)) (mixedSet c (now (samples .entry))) (now (mix .entry))) ⌝ }
+        now (mix .exit) ≡ withFrames (scratch 0 (c .frames)) (mixedSet c (recordings (now (samples .entry)) (now (visitor .entry)))) (now (mix .entry))) ⌝ }
 {
     if ends {
-        process_flat(places, levels, amplitudes, last, table, samples, mix);
+        process_flat(
+            places,
+            levels,
+            amplitudes,
+            last,
+            table,
+            samples,
+            visitor,
+            mix,
+        );
     } else {
-        process_flat(places, levels, amplitudes, full, table, samples, mix);
+        process_flat(
+            places,
+            levels,
+            amplitudes,
+            full,
+            table,
+            samples,
+            visitor,
+            mix,
+        );
     }
 }
 
 // A chunk: its frames are mixed, and then the sounds have played them.
-fn steady_chunk(
+fn steady_chunk<'a>(
     places: &mut Places,
     levels: &Levels,
     amplitudes: &Amplitudes,
@@ -61,19 +81,21 @@ fn steady_chunk(
     frames: usize,
     channels: usize,
     table: &GainTable,
-    samples: &[f32],
+    samples: &'a [f32],
+    visitor: &'a [f32],
     out: &mut [f32],
 )
     requires { ⌜ IsGainTable (now table) ⌝ }
     requires { ⌜ length (now places) ≡ placesSize ⌝ }
-    requires { ⌜ ChunkOk (chunkFrom (framed frames (now places)) (now levels) (now amplitudes)) (now samples) ⌝ }
+    requires { ⌜ ChunkOk (chunkFrom (framed frames (now places)) (now levels) (now amplitudes)) (recordings (now samples) (now visitor)) ⌝ }
     requires { ⌜ TracksThere (now places) (getD (now places) soundCountPlace 0) ⌝ }
     requires { ⌜ cond ends (now last) (now full) ≡ partsOf frames ⌝ }
     requires { ⌜ channels ≤ channelsMost ⌝ }
     requires { ⌜ length (now out) ≡ frames * channels ⌝ }
     ensures places { λ _. ⌜ now (places .exit) ≡ advanced frames (framed frames (now (places .entry))) ⌝ }
-    ensures samples { λ _. ⌜ now (out .exit) ≡ mixedSamples channels frames
-        (chunkFrom (framed frames (now (places .entry))) (now (levels .entry)) (now (amplitudes .entry))) (now (samples .entry)) ⌝ }
+    ensures samples { λ _. ⌜ (let c = chunkFrom (framed frames (now (places .entry))) (now (levels .entry)) (now (amplitudes .entry)) in
+        let heard = recordings (now (samples .entry)) (now (visitor .entry)) in
+        now (out .exit) ≡ mixedSamples channels frames c heard) ⌝ }
 {
     places[FRAMES] = frames;
     let mut mix = [0.0f32; 2 * CHUNK_FRAMES];
@@ -86,6 +108,7 @@ fn steady_chunk(
         ends,
         table,
         samples,
+        visitor,
         &mut mix,
     );
     renderer::write_frames(out, channels, &mix, frames);
@@ -93,27 +116,28 @@ fn steady_chunk(
 }
 
 // A block. `full` has the parts of a chunk of `buffer` frames, `last` those of the last chunk.
-pub fn steady_block(
+pub fn steady_block<'a>(
     places: &mut Places,
     levels: &Levels,
     amplitudes: &Amplitudes,
     clocks: Clocks,
     head: Head,
-    samples: &[f32],
+    samples: &'a [f32],
+    visitor: &'a [f32],
     table: &GainTable,
     full: &Parts,
     last: &Parts,
     out: &mut [f32],
 ) -> Clocks
     requires { ⌜ IsGainTable (now table) ⌝ }
-    requires { ⌜ StillOk head (now places) (now levels) (now amplitudes) (now samples) clocks ⌝ }
+    requires { ⌜ StillOk head (now places) (now levels) (now amplitudes) (recordings (now samples) (now visitor)) clocks ⌝ }
     requires { ⌜ now full ≡ partsOf (head .buffer) ⌝ }
     requires { ⌜ now last ≡ partsOf (chunkFrames head (chunkCount head - 1)) ⌝ }
     requires { ⌜ length (now out) ≡ head .block * head .channels ⌝ }
     ensures clocks { λ r. ⌜ r ≡ stillClocks head (chunkCount head) clocks ⌝ }
     ensures places { λ _. ⌜ now (places .exit) ≡ stillPlaces head (chunkCount head) (now (places .entry)) ⌝ }
     ensures samples { λ _. ⌜ now (out .exit) ≡ stillSamples head
-        (now (places .entry)) (now (levels .entry)) (now (amplitudes .entry)) (now (samples .entry)) ⌝ }
+        (now (places .entry)) (now (levels .entry)) (now (amplitudes .entry)) (recordings (now (samples .entry)) (now (visitor .entry))) ⌝ }
 {
     let channels = head.channels;
     let count = renderer::chunk_count(head);
@@ -135,6 +159,7 @@ pub fn steady_block(
             channels,
             table,
             samples,
+            visitor,
             &mut out[from..to],
         );
         moved = moved.update(renderer::chunk_seconds(head.rate, frames));

@@ -2,6 +2,7 @@
 ghost use mathlib.Core.Path.{_≡_};
 ghost use Prim.Native.Nat.{ℕ, _+_, _-_, _*_, _≤_, _<_};
 ghost use lib.ListN.{length, getD};
+ghost use Rattle.recordings.specs.Recordings.{recordings};
 ghost use Rattle.limits.specs.Limits.{orderLines, soundLines};
 ghost use Rattle.laws.specs.Pieces.{pieces, putAt};
 ghost use Rattle.gain_table.specs.GainTable.{IsGainTable};
@@ -95,10 +96,11 @@ fn with_run(mixer: Mixer, clocks: Clocks, played: [usize; SOUND_LINES]) -> Mixer
 }
 
 // From block `first` on, whose orders are read.
-pub fn steady_blocks(
+pub fn steady_blocks<'a>(
     mixer: Mixer,
     scene: Scene,
-    samples: &[f32],
+    samples: &'a [f32],
+    visitor: &'a [f32],
     table: &GainTable,
     full: &Parts,
     last: &Parts,
@@ -106,14 +108,15 @@ pub fn steady_blocks(
     out: &mut [f32],
 ) -> Run
     requires { ⌜ IsGainTable (now table) ⌝ }
-    requires { ⌜ RunOk scene mixer first (now samples) ⌝ }
+    requires { ⌜ RunOk scene mixer first (recordings (now samples) (now visitor)) ⌝ }
     requires { ⌜ now full ≡ partsOf (scene .head .buffer) ⌝ }
     requires { ⌜ now last ≡ partsOf (chunkFrames (scene .head) (chunkCount (scene .head) - 1)) ⌝ }
     requires { ⌜ length (now out) ≡ scene .head .block * scene .head .blocks * scene .head .channels ⌝ }
     ensures block { λ r. ⌜ r .block ≡ nextOrders scene first ⌝ }
     ensures mixer { λ r. ⌜ r .mixer ≡ blocksRun scene (nextOrders scene first - first) mixer ⌝ }
-    ensures samples { λ _. ⌜ now (out .exit) ≡ putAt (first * (scene .head .block * scene .head .channels))
-        (pieces (λ j. blockSamples scene (now (samples .entry)) (blocksRun scene j mixer)) (nextOrders scene first - first)) (now (out .entry)) ⌝ }
+    ensures samples { λ _. ⌜ (let heard = recordings (now (samples .entry)) (now (visitor .entry)) in
+        now (out .exit) ≡ putAt (first * (scene .head .block * scene .head .channels))
+        (pieces (λ j. blockSamples scene heard (blocksRun scene j mixer)) (nextOrders scene first - first)) (now (out .entry))) ⌝ }
 {
     let head = scene.head;
     let width = head.block * head.channels;
@@ -136,6 +139,7 @@ pub fn steady_blocks(
             clocks,
             head,
             samples,
+            visitor,
             table,
             full,
             last,

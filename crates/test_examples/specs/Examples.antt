@@ -8,6 +8,7 @@ use lib.Dec.{eqb}
 use lib.IntN.{pos}
 use lib.ListN.{getD, replicate}
 use lib.Ieee.{Float, nan, binary32, binary64, ofInt, ofBits, toBits}
+use Rattle.recordings.specs.Recordings.{Recordings, recordings}
 use Rattle.laws.specs.Float.{whole}
 use Rattle.laws.specs.Loop.{upto}
 use Rattle.laws.specs.Count.{counted}
@@ -115,7 +116,7 @@ row = map raised
 -- one track with two sounds, of 1,536 and of 300 frames, all 0.5, in blocks of one chunk each
 abbrev pub withOrders : List (List ℕ) → Scene
 withOrders orders =
-    sceneOf ((row (8192 ∷ 2 ∷ 128 ∷ 128 ∷ 10 ∷ 0 ∷ []) ∷ []) ∷ [] ∷ (row (0 ∷ 0 ∷ []) ∷ []) ∷ [] ∷ [] ∷ (row (1 ∷ 0 ∷ 1536 ∷ []) ∷ row (1 ∷ 100 ∷ 300 ∷ []) ∷ []) ∷ orders ∷ [])
+    sceneOf ((row (8192 ∷ 2 ∷ 128 ∷ 128 ∷ 10 ∷ 0 ∷ []) ∷ []) ∷ [] ∷ (row (0 ∷ 0 ∷ []) ∷ []) ∷ [] ∷ [] ∷ (row (1 ∷ 0 ∷ 1536 ∷ 0 ∷ []) ∷ row (1 ∷ 100 ∷ 300 ∷ 0 ∷ []) ∷ []) ∷ orders ∷ [])
 
 -- a linear pause over 125 ms
 abbrev pub pausedScene : Scene
@@ -125,8 +126,8 @@ pausedScene = withOrders (row (0 ∷ 4 ∷ 1 ∷ 0 ∷ 0 ∷ 0 ∷ 0 ∷ 125 ∷
 abbrev pub resumedScene : Scene
 resumedScene = withOrders (row (0 ∷ 4 ∷ 1 ∷ 0 ∷ 0 ∷ 0 ∷ 0 ∷ 0 ∷ 0 ∷ 0 ∷ []) ∷ row (1 ∷ 5 ∷ 1 ∷ 0 ∷ 0 ∷ 125 ∷ 0 ∷ 125 ∷ 0 ∷ 0 ∷ []) ∷ [])
 
-abbrev pub samples : List Float
-samples = replicate 3072 (ofBits binary32 0x3f00_0000)
+abbrev pub samples : Recordings
+samples = recordings (replicate 3072 (ofBits binary32 0x3f00_0000)) []
 
 abbrev pub zeroBits : Float → Bool
 zeroBits x = eqb (toBits binary32 x) 0

@@ -1,4 +1,4 @@
-// The render program where there is no scene.txt and no samples.raw.
+// The render program where there is no scene.txt, no samples.raw and no visitor.raw.
 fn main() {
     render_files::run();
 }

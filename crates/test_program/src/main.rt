@@ -1,13 +1,13 @@
-// Reads cases from standard input (`test_replay`, cases.rt) and prints what the render program prints for the two files of each.
+// Reads cases from standard input (`test_replay`, cases.rt) and prints what the render program prints for the three files of each.
 ghost use Prim.Native.Nat.{_≤_};
 ghost use lib.ListN.{length};
 use libc::STDIN_FILENO;
 use libc::STDOUT_FILENO;
 use render_files::TEXT;
 
-fn print_case(file: &[u8], raw: &[u8]) {
+fn print_case(file: &[u8], raw: &[u8], visitor: &[u8]) {
     let mut text = [0u8; TEXT];
-    let n = render_files::render_text(file, raw, &mut text);
+    let n = render_files::render_text(file, raw, visitor, &mut text);
     io::write_all(STDOUT_FILENO, &text[..n]);
 }
 
@@ -17,12 +17,17 @@ fn answer_case(input: &[u8]) -> usize
 {
     let case = test_replay::first_case(input);
     let start = case.start;
-    let middle = case.middle;
+    let samples = case.samples;
+    let visitor = case.visitor;
     let end = case.end;
     if end == 0 {
         return 0;
     }
-    print_case(&input[start..middle], &input[middle..end]);
+    print_case(
+        &input[start..samples],
+        &input[samples..visitor],
+        &input[visitor..end],
+    );
     end
 }
 

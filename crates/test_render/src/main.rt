@@ -16,20 +16,28 @@ fn print_samples(output: &[f32], count: usize) {
 }
 
 // Prints the number and the output, which is cut where the room ends.
-fn print_render(file: &[u8], samples: &[f32], room: &mut [f32], length: usize) {
+fn print_render<'a>(
+    file: &[u8],
+    samples: &'a [f32],
+    visitor: &'a [f32],
+    room: &mut [f32],
+    length: usize,
+) {
     let n = test_replay::least(length, room.len());
-    let number = room_desk::render(file, samples, &mut room[0..n]);
+    let number = room_desk::render(file, samples, visitor, &mut room[0..n]);
     io::print_decimal(STDOUT_FILENO, number as u64);
     io::write_all(STDOUT_FILENO, b"\n");
     print_samples(room, n);
 }
 
-fn render_case(file: &[u8], bytes: &[u8], length: usize) {
+fn render_case(file: &[u8], house: &[u8], visiting: &[u8], length: usize) {
     let mut samples = [0.0f32; 8192];
-    let n = test_replay::samples_of(bytes, &mut samples);
+    let mut visitor = [0.0f32; 8192];
+    let n = test_replay::samples_of(house, &mut samples);
+    let m = test_replay::samples_of(visiting, &mut visitor);
     // A refusal leaves these as they are.
     let mut output = [0.75f32; 8192];
-    print_render(file, &samples[..n], &mut output, length);
+    print_render(file, &samples[..n], &visitor[..m], &mut output, length);
 }
 
 // Renders the case that the input begins with and prints what comes of it, and answers how many bytes it has: none
@@ -39,12 +47,18 @@ fn answer_case(input: &[u8]) -> usize
 {
     let case = test_replay::first_case(input);
     let start = case.start;
-    let middle = case.middle;
+    let samples = case.samples;
+    let visitor = case.visitor;
     let end = case.end;
     if end == 0 {
         return 0;
     }
-    render_case(&input[start..middle], &input[middle..end], case.output);
+    render_case(
+        &input[start..samples],
+        &input[samples..visitor],
+        &input[visitor..end],
+        case.output,
+    );
     end
 }
 

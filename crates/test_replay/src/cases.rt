@@ -1,43 +1,53 @@
-// A stream of cases, which the oracle's `batch` reads too. A case is four numbers, each of four bytes, the lowest first: a
-// kind, which is not looked at, the bytes of the scene file, the bytes of the samples, the output's samples; then the two files.
+// A stream of cases, which the oracle's `batch` reads too. A case is five numbers, each of four bytes, the lowest first: a
+// kind, which is not looked at, the bytes of the scene file, of the house's samples and of the visitor's, the output's samples;
+// then the three files.
 ghost use mathlib.Core.Path.{_≡_};
 ghost use Prim.Native.Nat.{_≤_};
 ghost use lib.ListN.{length, take};
 
-// Where the files of a case lie: the scene from `start` to `middle`, the samples from there to `end`. All are 0 of no case.
+// Where the files of a case lie: the scene from `start` to `samples`, the house's samples from there to `visitor`, the visitor's
+// from there to `end`. All are 0 of no case.
 pub struct Case {
     pub start: usize,
-    pub middle: usize,
+    pub samples: usize,
+    pub visitor: usize,
     pub end: usize,
     pub output: usize,
 }
 
+// Bytes of a case's numbers.
+const HEAD: usize = 20;
+
+fn no_case() -> Case
+    ensures { λ r. ⌜ (r .start ≡ 0) × (r .samples ≡ 0) × (r .visitor ≡ 0) × (r .end ≡ 0) ⌝ }
+{
+    Case {
+        start: 0,
+        samples: 0,
+        visitor: 0,
+        end: 0,
+        output: 0,
+    }
+}
+
 // The case that the input begins with.
 pub fn first_case(input: &[u8]) -> Case
-    ensures { λ r. ⌜ (r .start ≤ r .middle) × (r .middle ≤ r .end) × (r .end ≤ length (now (input .entry))) ⌝ }
+    ensures { λ r. ⌜ (r .start ≤ r .samples) × (r .samples ≤ r .visitor) × (r .visitor ≤ r .end) × (r .end ≤ length (now (input .entry))) ⌝ }
 {
-    if input.len() < 16 {
-        return Case {
-            start: 0,
-            middle: 0,
-            end: 0,
-            output: 0,
-        };
+    if input.len() < HEAD {
+        return no_case();
     }
-    let middle = 16 + float_bits::word(input, 4) as usize;
-    let end = middle + float_bits::word(input, 8) as usize;
+    let samples = HEAD + float_bits::word(input, 4) as usize;
+    let visitor = samples + float_bits::word(input, 8) as usize;
+    let end = visitor + float_bits::word(input, 12) as usize;
     if input.len() < end {
-        return Case {
-            start: 0,
-            middle: 0,
-            end: 0,
-            output: 0,
-        };
+        return no_case();
     }
-    let output = float_bits::word(input, 12) as usize;
+    let output = float_bits::word(input, 16) as usize;
     Case {
-        start: 16,
-        middle,
+        start: HEAD,
+        samples,
+        visitor,
         end,
         output,
     }

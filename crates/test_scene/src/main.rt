@@ -7,10 +7,12 @@ use libc::STDOUT_FILENO;
 // The most samples of a case.
 const SAMPLES: usize = 16384;
 
-fn number_of(file: &[u8], bytes: &[u8], output: usize) -> u32 {
+fn number_of(file: &[u8], house: &[u8], visiting: &[u8], output: usize) -> u32 {
     let mut samples = [0.0f32; SAMPLES];
-    let n = test_replay::samples_of(bytes, &mut samples);
-    let answer = scene_reader::read_scene(file, &samples[..n], output);
+    let mut visitor = [0.0f32; SAMPLES];
+    let n = test_replay::samples_of(house, &mut samples);
+    let m = test_replay::samples_of(visiting, &mut visitor);
+    let answer = scene_reader::read_scene(file, &samples[..n], &visitor[..m], output);
     answer.number
 }
 
@@ -21,12 +23,18 @@ fn answer_case(input: &[u8]) -> usize
 {
     let case = test_replay::first_case(input);
     let start = case.start;
-    let middle = case.middle;
+    let samples = case.samples;
+    let visitor = case.visitor;
     let end = case.end;
     if end == 0 {
         return 0;
     }
-    let number = number_of(&input[start..middle], &input[middle..end], case.output);
+    let number = number_of(
+        &input[start..samples],
+        &input[samples..visitor],
+        &input[visitor..end],
+        case.output,
+    );
     io::print_decimal(STDOUT_FILENO, number as u64);
     io::write_all(STDOUT_FILENO, b"\n");
     end

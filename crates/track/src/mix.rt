@@ -2,6 +2,7 @@
 ghost use mathlib.Core.Path.{_≡_};
 ghost use Prim.Native.Nat.{_*_, _≤_};
 ghost use lib.ListN.{length};
+ghost use Rattle.recordings.specs.Recordings.{recordings};
 ghost use Rattle.gain_table.specs.GainTable.{IsGainTable};
 ghost use Rattle.limits.specs.Limits.{trackDepth};
 ghost use Rattle.frame.specs.Layout.{scratch, withFrames};
@@ -44,7 +45,7 @@ use links::line_before;
 use links::links_of;
 
 // Sets `out` to the sum of the tracks right under the mixer, latest line first.
-fn process_tracks(
+fn process_tracks<'a>(
     places: &Places,
     levels: &Levels,
     amplitudes: &Amplitudes,
@@ -52,21 +53,24 @@ fn process_tracks(
     sounds: &Links,
     parts: &Parts,
     table: &GainTable,
-    samples: &[f32],
+    samples: &'a [f32],
+    visitor: &'a [f32],
     out: &mut [f32],
     sends: &mut [f32],
 )
     requires { ⌜ IsGainTable (now table) ⌝ }
-    requires { ⌜ ChunkOk (chunkFrom (now places) (now levels) (now amplitudes)) (now samples) ⌝ }
+    requires { ⌜ ChunkOk (chunkFrom (now places) (now levels) (now amplitudes)) (recordings (now samples) (now visitor)) ⌝ }
     requires { ⌜ (let c = chunkFrom (now places) (now levels) (now amplitudes) in
         (now «sub_tracks» ≡ subTrackLinks c) × (now sounds ≡ soundLinks c)) ⌝ }
     requires { ⌜ (let c = chunkFrom (now places) (now levels) (now amplitudes) in now parts ≡ partsOf (c .frames)) ⌝ }
     requires { ⌜ (let c = chunkFrom (now places) (now levels) (now amplitudes) in 2 * c .frames ≤ length (now out)) ⌝ }
     requires { ⌜ length (now sends) ≡ sendPlaces ⌝ }
     ensures frames { λ _. ⌜ (let c = chunkFrom (now (places .entry)) (now (levels .entry)) (now (amplitudes .entry)) in
-        now (out .exit) ≡ withFrames (scratch 0 (c .frames)) (tracksSet c (now (samples .entry))) (now (out .entry))) ⌝ }
+        let heard = recordings (now (samples .entry)) (now (visitor .entry)) in
+        now (out .exit) ≡ withFrames (scratch 0 (c .frames)) (tracksSet c heard) (now (out .entry))) ⌝ }
     ensures sends { λ _. ⌜ (let c = chunkFrom (now (places .entry)) (now (levels .entry)) (now (amplitudes .entry)) in
-        now (sends .exit) ≡ onSends (c .frames) (withSubSends trackDepth c (now (samples .entry)) 0) (now (sends .entry))) ⌝ }
+        let heard = recordings (now (samples .entry)) (now (visitor .entry)) in
+        now (sends .exit) ≡ onSends (c .frames) (withSubSends trackDepth c heard 0) (now (sends .entry))) ⌝ }
 {
     let frames = places[FRAMES];
     clear(out, frames);
@@ -81,6 +85,7 @@ fn process_tracks(
             parts,
             table,
             samples,
+            visitor,
             j,
             TRACK_DEPTH,
             out,
@@ -91,18 +96,19 @@ fn process_tracks(
 }
 
 // Adds the send tracks' scaled frames, latest line first.
-fn add_sends(
+fn add_sends<'a>(
     places: &Places,
     levels: &Levels,
     amplitudes: &Amplitudes,
     parts: &Parts,
     table: &GainTable,
-    samples: &[f32],
+    samples: &'a [f32],
+    visitor: &'a [f32],
     sends: &[f32],
     out: &mut [f32],
 )
     requires { ⌜ IsGainTable (now table) ⌝ }
-    requires { ⌜ ChunkOk (chunkFrom (now places) (now levels) (now amplitudes)) (now samples) ⌝ }
+    requires { ⌜ ChunkOk (chunkFrom (now places) (now levels) (now amplitudes)) (recordings (now samples) (now visitor)) ⌝ }
     requires { ⌜ (let c = chunkFrom (now places) (now levels) (now amplitudes) in now parts ≡ partsOf (c .frames)) ⌝ }
     requires { ⌜ (let c = chunkFrom (now places) (now levels) (now amplitudes) in 2 * c .frames ≤ length (now out)) ⌝ }
     requires { ⌜ length (now sends) ≡ sendPlaces ⌝ }
@@ -121,21 +127,23 @@ fn add_sends(
 
 // Sets `out` to the mix of the chunk: tracks, then send tracks, then the main track's sounds, and the
 // main volume.
-pub fn process_flat(
+pub fn process_flat<'a>(
     places: &Places,
     levels: &Levels,
     amplitudes: &Amplitudes,
     parts: &Parts,
     table: &GainTable,
-    samples: &[f32],
+    samples: &'a [f32],
+    visitor: &'a [f32],
     out: &mut [f32],
 )
     requires { ⌜ IsGainTable (now table) ⌝ }
-    requires { ⌜ ChunkOk (chunkFrom (now places) (now levels) (now amplitudes)) (now samples) ⌝ }
+    requires { ⌜ ChunkOk (chunkFrom (now places) (now levels) (now amplitudes)) (recordings (now samples) (now visitor)) ⌝ }
     requires { ⌜ (let c = chunkFrom (now places) (now levels) (now amplitudes) in now parts ≡ partsOf (c .frames)) ⌝ }
     requires { ⌜ (let c = chunkFrom (now places) (now levels) (now amplitudes) in 2 * c .frames ≤ length (now out)) ⌝ }
     ensures { λ _. ⌜ (let c = chunkFrom (now (places .entry)) (now (levels .entry)) (now (amplitudes .entry)) in
-        now (out .exit) ≡ withFrames (scratch 0 (c .frames)) (mixedSet c (now (samples .entry))) (now (out .entry))) ⌝ }
+        let heard = recordings (now (samples .entry)) (now (visitor .entry)) in
+        now (out .exit) ≡ withFrames (scratch 0 (c .frames)) (mixedSet c heard) (now (out .entry))) ⌝ }
 {
     let mut sends = [0.0f32; SEND_PLACES];
     let frames = places[FRAMES];
@@ -150,6 +158,7 @@ pub fn process_flat(
         parts,
         table,
         samples,
+        visitor,
         out,
         &mut sends,
     );
@@ -160,20 +169,37 @@ pub fn process_flat(
         parts,
         table,
         samples,
+        visitor,
         &sends,
         out,
     );
-    add_sounds(out, samples, places, levels, amplitudes, &sounds, 0);
+    add_sounds(
+        out,
+        samples,
+        visitor,
+        places,
+        levels,
+        amplitudes,
+        &sounds,
+        0,
+    );
     let main = main_level(places, levels, amplitudes);
     apply_level(out, main, frames, parts, table);
 }
 
 // The same of a chunk whose tables are not laid out yet.
-pub fn process(chunk: Chunk, table: &GainTable, samples: &[f32], out: &mut [f32])
+pub fn process<'a>(
+    chunk: Chunk,
+    table: &GainTable,
+    samples: &'a [f32],
+    visitor: &'a [f32],
+    out: &mut [f32],
+)
     requires { ⌜ IsGainTable (now table) ⌝ }
-    requires { ⌜ ChunkOk chunk (now samples) ⌝ }
+    requires { ⌜ ChunkOk chunk (recordings (now samples) (now visitor)) ⌝ }
     requires { ⌜ 2 * chunk .frames ≤ length (now out) ⌝ }
-    ensures { λ _. ⌜ now (out .exit) ≡ withFrames (scratch 0 (chunk .frames)) (mixedSet chunk (now (samples .entry))) (now (out .entry)) ⌝ }
+    ensures { λ _. ⌜ (let heard = recordings (now (samples .entry)) (now (visitor .entry)) in
+        now (out .exit) ≡ withFrames (scratch 0 (chunk .frames)) (mixedSet chunk heard) (now (out .entry))) ⌝ }
 {
     let mut places = [0usize; PLACES];
     let mut levels = [0.0f32; LEVELS];
@@ -181,5 +207,14 @@ pub fn process(chunk: Chunk, table: &GainTable, samples: &[f32], out: &mut [f32]
     flatten(chunk, &mut places, &mut levels, &mut amplitudes);
     let frames = chunk.frames;
     let parts = parts_of(frames);
-    process_flat(&places, &levels, &amplitudes, &parts, table, samples, out);
+    process_flat(
+        &places,
+        &levels,
+        &amplitudes,
+        &parts,
+        table,
+        samples,
+        visitor,
+        out,
+    );
 }

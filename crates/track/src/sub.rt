@@ -3,6 +3,7 @@ ghost use mathlib.Core.Path.{_≡_};
 ghost use mathlib.Core.Bool.{true};
 ghost use Prim.Native.Nat.{_*_, _≤_};
 ghost use lib.ListN.{length};
+ghost use Rattle.recordings.specs.Recordings.{recordings};
 ghost use Rattle.gain_table.specs.GainTable.{IsGainTable};
 ghost use Rattle.limits.specs.Limits.{chunkFramesMost};
 ghost use Rattle.frame.specs.Frame.{addedFrom};
@@ -113,16 +114,17 @@ fn apply_volume(out: &mut [f32], track: ChunkTrack, frames: usize, parts: &Parts
 }
 
 // Adds the scaled frames to the send tracks that the track is routed to.
-fn add_routes(
+fn add_routes<'a>(
     sends: &mut [f32],
     out: &[f32],
     places: &Places,
     levels: &Levels,
     amplitudes: &Amplitudes,
-    samples: &[f32],
+    samples: &'a [f32],
+    visitor: &'a [f32],
     line: usize,
 )
-    requires { ⌜ ChunkOk (chunkFrom (now places) (now levels) (now amplitudes)) (now samples) ⌝ }
+    requires { ⌜ ChunkOk (chunkFrom (now places) (now levels) (now amplitudes)) (recordings (now samples) (now visitor)) ⌝ }
     requires { ⌜ (let c = chunkFrom (now places) (now levels) (now amplitudes) in 2 * c .frames ≤ length (now out)) ⌝ }
     requires { ⌜ length (now sends) ≡ sendPlaces ⌝ }
     ensures { λ _. ⌜ (let c = chunkFrom (now (places .entry)) (now (levels .entry)) (now (amplitudes .entry)) in
@@ -144,7 +146,7 @@ fn add_routes(
 // Leaves in `out`, whose frames are zeros, the frames of track `line`, counted from 1, before its
 // volume, and adds to the send tracks what the tracks below it send. `depth` is how many levels of
 // tracks are left below it.
-fn gather(
+fn gather<'a>(
     places: &Places,
     levels: &Levels,
     amplitudes: &Amplitudes,
@@ -152,14 +154,15 @@ fn gather(
     sounds: &Links,
     parts: &Parts,
     table: &GainTable,
-    samples: &[f32],
+    samples: &'a [f32],
+    visitor: &'a [f32],
     line: usize,
     depth: usize,
     out: &mut [f32],
     sends: &mut [f32],
 )
     requires { ⌜ IsGainTable (now table) ⌝ }
-    requires { ⌜ ChunkOk (chunkFrom (now places) (now levels) (now amplitudes)) (now samples) ⌝ }
+    requires { ⌜ ChunkOk (chunkFrom (now places) (now levels) (now amplitudes)) (recordings (now samples) (now visitor)) ⌝ }
     requires { ⌜ (let c = chunkFrom (now places) (now levels) (now amplitudes) in
         (now «sub_tracks» ≡ subTrackLinks c) × (now sounds ≡ soundLinks c)) ⌝ }
     requires { ⌜ (let c = chunkFrom (now places) (now levels) (now amplitudes) in now parts ≡ partsOf (c .frames)) ⌝ }
@@ -168,9 +171,11 @@ fn gather(
     requires { ⌜ length (now sends) ≡ sendPlaces ⌝ }
     requires { ⌜ (let c = chunkFrom (now places) (now levels) (now amplitudes) in AllZero (c .frames) (now out)) ⌝ }
     ensures sum { λ _. ⌜ (let c = chunkFrom (now (places .entry)) (now (levels .entry)) (now (amplitudes .entry)) in
-        now (out .exit) ≡ withFrames (scratch 0 (c .frames)) (sumSet depth c (now (samples .entry)) line) (now (out .entry))) ⌝ }
+        let heard = recordings (now (samples .entry)) (now (visitor .entry)) in
+        now (out .exit) ≡ withFrames (scratch 0 (c .frames)) (sumSet depth c heard line) (now (out .entry))) ⌝ }
     ensures sends { λ _. ⌜ (let c = chunkFrom (now (places .entry)) (now (levels .entry)) (now (amplitudes .entry)) in
-        now (sends .exit) ≡ onSends (c .frames) (withSubSends depth c (now (samples .entry)) line) (now (sends .entry))) ⌝ }
+        let heard = recordings (now (samples .entry)) (now (visitor .entry)) in
+        now (sends .exit) ≡ onSends (c .frames) (withSubSends depth c heard line) (now (sends .entry))) ⌝ }
 {
     let mut j = last_line(sub_tracks, line);
     while 0 < j {
@@ -183,6 +188,7 @@ fn gather(
             parts,
             table,
             samples,
+            visitor,
             j,
             depth,
             out,
@@ -190,14 +196,23 @@ fn gather(
         );
         j = line_before(sub_tracks, j);
     }
-    add_sounds(out, samples, places, levels, amplitudes, sounds, line);
+    add_sounds(
+        out,
+        samples,
+        visitor,
+        places,
+        levels,
+        amplitudes,
+        sounds,
+        line,
+    );
 }
 
 // Adds the frames of track `line`, counted from 1, onto the sum `to`, and to the send tracks what it
 // and the tracks below it send: its sum is gathered, and scaled after. `depth` is how many levels of
 // tracks are left. The sum began at +0.0: it is never -0.0, so that a track which stands still need
 // not add its zeros.
-pub fn process(
+pub fn process<'a>(
     places: &Places,
     levels: &Levels,
     amplitudes: &Amplitudes,
@@ -205,14 +220,15 @@ pub fn process(
     sounds: &Links,
     parts: &Parts,
     table: &GainTable,
-    samples: &[f32],
+    samples: &'a [f32],
+    visitor: &'a [f32],
     line: usize,
     depth: usize,
     to: &mut [f32],
     sends: &mut [f32],
 )
     requires { ⌜ IsGainTable (now table) ⌝ }
-    requires { ⌜ ChunkOk (chunkFrom (now places) (now levels) (now amplitudes)) (now samples) ⌝ }
+    requires { ⌜ ChunkOk (chunkFrom (now places) (now levels) (now amplitudes)) (recordings (now samples) (now visitor)) ⌝ }
     requires { ⌜ (let c = chunkFrom (now places) (now levels) (now amplitudes) in
         (now «sub_tracks» ≡ subTrackLinks c) × (now sounds ≡ soundLinks c)) ⌝ }
     requires { ⌜ (let c = chunkFrom (now places) (now levels) (now amplitudes) in now parts ≡ partsOf (c .frames)) ⌝ }
@@ -221,9 +237,11 @@ pub fn process(
     requires { ⌜ length (now sends) ≡ sendPlaces ⌝ }
     requires { ⌜ (let c = chunkFrom (now places) (now levels) (now amplitudes) in AllRunning (c .frames) (now to)) ⌝ }
     ensures frames { λ _. ⌜ (let c = chunkFrom (now (places .entry)) (now (levels .entry)) (now (amplitudes .entry)) in
-        now (to .exit) ≡ withFrames (scratch 0 (c .frames)) (addedFrom (trackFrame depth c (now (samples .entry)) line)) (now (to .entry))) ⌝ }
+        let heard = recordings (now (samples .entry)) (now (visitor .entry)) in
+        now (to .exit) ≡ withFrames (scratch 0 (c .frames)) (addedFrom (trackFrame depth c heard line)) (now (to .entry))) ⌝ }
     ensures sends { λ _. ⌜ (let c = chunkFrom (now (places .entry)) (now (levels .entry)) (now (amplitudes .entry)) in
-        now (sends .exit) ≡ onSends (c .frames) (withTrackSends depth c (now (samples .entry)) line) (now (sends .entry))) ⌝ }
+        let heard = recordings (now (samples .entry)) (now (visitor .entry)) in
+        now (sends .exit) ≡ onSends (c .frames) (withTrackSends depth c heard line) (now (sends .entry))) ⌝ }
 {
     let frames = places[FRAMES];
     let track = track_at(places, levels, amplitudes, line - 1);
@@ -243,12 +261,22 @@ pub fn process(
         parts,
         table,
         samples,
+        visitor,
         line,
         depth - 1,
         &mut out,
         sends,
     );
     apply_volume(&mut out, track, frames, parts, table);
-    add_routes(sends, &out, places, levels, amplitudes, samples, line);
+    add_routes(
+        sends,
+        &out,
+        places,
+        levels,
+        amplitudes,
+        samples,
+        visitor,
+        line,
+    );
     add_frames(to, &out, frames);
 }

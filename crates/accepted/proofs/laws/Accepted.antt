@@ -1,14 +1,18 @@
 -- An accepted scene is as the layers above need it (SceneOk.antt), and its output has block times blocks times channels samples. Assumes nothing.
 use mathlib.Core.Path.{_≡_}
+use mathlib.Core.Bool.{true}
 use mathlib.Core.List.{List, []}
-use Prim.Native.Nat.{ℕ, _+_, _*_, _/_, _%_, _≤_, _<_}
-use borrow.Author.Tests.{leb-true, eqb-true}
+use Prim.Native.Nat.{ℕ, _+_, _*_, _%_, _≤_, _<_}
+use borrow.Author.Tests.{eqb-true}
 use lib.Dec.{T, eqb, lit<}
 use lib.ListN.{length, getD}
 use lib.Ieee.{Float, nan, binary64, fits}
+use Rattle.recordings.specs.Recordings.{Recordings, fromHouse, fromVisitor, recording}
+use Rattle.recordings.proofs.laws.Recordings.{of-both}
 use Rattle.limits.specs.Limits.{clockLines, trackLines, sendLines, routeLines, soundLines, orderLines, blockFramesMost, blocksMost, channelsMost, chunkFramesMost}
 use Rattle.laws.proofs.laws.Choice.{true-T, and-right}
 use Rattle.laws.specs.DecibelRange.{TargetRange}
+use Rattle.laws.specs.FloatBounds.{Within}
 use Rattle.clock.specs.ClockSpeed.{asTicksPerSecond, allowedSpeed}
 use Rattle.scene_tables.specs.Tables.{tables, tableAt, width, noField, head, clocks, tracks, sends, routes, sounds, orders, headColumn, clockColumn, trackColumn, sendColumn, routeColumn, soundColumn, orderColumn}
 use Rattle.scene_file.specs.Grammar.{tablesOf}
@@ -18,10 +22,10 @@ use Rattle.scene_tables.proofs.laws.Every.{every-at}
 use Rattle.accepted.specs.SceneOk.{RouteOk, OrderOk, SceneOk, SamplesOk}
 use Rattle.accepted.proofs.laws.Passed.{TablesPass, file-passes}
 use Rattle.accepted.proofs.laws.Line.{count-ok, FieldOk, LineOk, line-ok, filled-length, every-place}
-use Rattle.accepted.proofs.laws.Values.{natural-between, natural-line, natural-below, volume-target, speed-fits, start-there, index-ok, sample-within, two-each}
+use Rattle.accepted.proofs.laws.Values.{natural-between, natural-line, natural-below, volume-target, speed-fits, start-there, index-ok, sample-within, sound-held}
 use Rattle.accepted.specs.Lines.{absentClockLine, absentTrackLine, absentSendLine, absentRouteLine, absentSoundLine, absentOrderLine}
 
-module _ (ts : Tables) (samples : List Float) (output : ℕ) (passed : TablesPass ts samples output) where
+module _ (ts : Tables) (samples : Recordings) (output : ℕ) (passed : TablesPass ts samples output) where
   most : (t : ℕ) → t < length tables → linesAt ts t ≤ tableAt t .most
   most t h = count-ok ts (passed .lines) t h .1
 
@@ -62,11 +66,13 @@ module _ (ts : Tables) (samples : List Float) (output : ℕ) (passed : TablesPas
 
   sound-line : (k : ℕ) → k < linesAt ts sounds
       → (soundOf (getD (rowsAt ts sounds) k []) .track ≤ linesAt ts tracks)
-      × (2 * (soundOf (getD (rowsAt ts sounds) k []) .first + soundOf (getD (rowsAt ts sounds) k []) .count) ≤ length samples)
+      × (2 * (soundOf (getD (rowsAt ts sounds) k []) .first + soundOf (getD (rowsAt ts sounds) k []) .count) ≤ length (recording samples (soundOf (getD (rowsAt ts sounds) k []) .from)))
   unfolding soundOf soundsFit soundFits
   sound-line k h =
-      let fit = every-at (linesAt ts sounds) _ k h (and-right (eqb (length samples % 2) 0) _ (passed .sounds)) in
-      (line sounds k (lit< tt) h .fields (soundColumn .track) (lit< tt) .1, two-each _ (length samples) (leb-true _ (length samples / 2) fit))
+      let ok = line sounds k (lit< tt) h .fields in
+      let house = every-at (linesAt ts sounds) _ k h (and-right (eqb (length (samples .house) % 2) 0) _ (passed .houseSounds)) in
+      let visitor = every-at (linesAt ts sounds) _ k h (and-right (eqb (length (samples .visitor) % 2) 0) _ (passed .visitorSounds)) in
+      (ok (soundColumn .track) (lit< tt) .1, sound-held samples _ _ (natural-between fromHouse fromVisitor _ (ok (soundColumn .from) (lit< tt)) .1) house visitor)
 
   order-line : (i : ℕ) → i < linesAt ts orders → OrderOk (sceneOf ts) (orderOf (getD (rowsAt ts orders) i []))
   unfolding orderOf headOf sceneOf
@@ -113,25 +119,29 @@ module _ (ts : Tables) (samples : List Float) (output : ℕ) (passed : TablesPas
         orders = every-place orderLines orderOf (rowsAt ts orders) absentOrderLine (λ i o. OrderOk (sceneOf ts) o) order-line;
       }
 
+  all-within : (l : List Float) → samplesOk l ≡ true → (i : ℕ) → i < length l → Within (getD l i nan) 1 1
+  unfolding samplesOk
+  all-within l e i h = sample-within (getD l i nan) (every-at (length l) _ i h e)
+
   samples-ok : SamplesOk (sceneOf ts) samples
-  unfolding sceneOf samplesOk
+  unfolding sceneOf
   samples-ok =
       record {
-        sounds = every-place soundLines soundOf (rowsAt ts sounds) absentSoundLine (λ k x. 2 * (x .first + x .count) ≤ length samples) (λ k h. sound-line k h .1);
-        within = λ i h. sample-within (getD samples i nan) (every-at (length samples) _ i h (passed .inside));
+        sounds = every-place soundLines soundOf (rowsAt ts sounds) absentSoundLine (λ k x. 2 * (x .first + x .count) ≤ length (recording samples (x .from))) (λ k h. sound-line k h .1);
+        within = λ from. of-both (λ l. (i : ℕ) → i < length l → Within (getD l i nan) 1 1) samples from (all-within (samples .house) (passed .houseInside)) (all-within (samples .visitor) (passed .visitorInside));
       }
 
   output-length : output ≡ sceneOf ts .head .block * sceneOf ts .head .blocks * sceneOf ts .head .channels
   unfolding outputLength headOf sceneOf
   output-length = eqb-true output _ (passed .long)
 
-pub accepted-ok : (file : List ℕ) (samples : List Float) (output : ℕ) → answer file samples output ≡ 0 → SceneOk (sceneOf (tablesOf file))
+pub accepted-ok : (file : List ℕ) (samples : Recordings) (output : ℕ) → answer file samples output ≡ 0 → SceneOk (sceneOf (tablesOf file))
 accepted-ok file samples output e = scene-ok (tablesOf file) samples output (file-passes file samples output e .tables)
 
-pub accepted-samples : (file : List ℕ) (samples : List Float) (output : ℕ) → answer file samples output ≡ 0 → SamplesOk (sceneOf (tablesOf file)) samples
+pub accepted-samples : (file : List ℕ) (samples : Recordings) (output : ℕ) → answer file samples output ≡ 0 → SamplesOk (sceneOf (tablesOf file)) samples
 accepted-samples file samples output e = samples-ok (tablesOf file) samples output (file-passes file samples output e .tables)
 
 -- block times blocks times channels
-pub accepted-length : (file : List ℕ) (samples : List Float) (output : ℕ) → answer file samples output ≡ 0
+pub accepted-length : (file : List ℕ) (samples : Recordings) (output : ℕ) → answer file samples output ≡ 0
     → output ≡ sceneOf (tablesOf file) .head .block * sceneOf (tablesOf file) .head .blocks * sceneOf (tablesOf file) .head .channels
 accepted-length file samples output e = output-length (tablesOf file) samples output (file-passes file samples output e .tables)

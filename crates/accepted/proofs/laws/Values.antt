@@ -3,11 +3,13 @@ use mathlib.Core.Path.{_≡_, refl}
 use mathlib.Core.Bool.{Bool, true, false, cond, _&&_, true≢false}
 use Prim.Native.Nat.{ℕ, suc, _-_, _*_, _/_, _≤_, _<_}
 use native.Mathlib.Omega.{arith}
-use borrow.Author.Tests.{leb-true, leb-false, eqb-true, eqb-false, ne-eqb}
+use borrow.Author.Tests.{leb-true, leb-false, eqb-true, eqb-false, eq-eqb, ne-eqb}
 use lib.Dec.{T, eqb, leb, lit<}
 use lib.IntN.{pos, negsuc}
+use lib.ListN.{length}
 use lib.Ieee.{Float, binary32, binary64, fits, ofInt, div, neg, le}
 use lib.Ieee.Fits.{div-fits}
+use Rattle.recordings.specs.Recordings.{Recordings, fromHouse, fromVisitor, recording}
 use Rattle.laws.proofs.laws.Choice.{true-T, and-left, and-right}
 use Rattle.laws.specs.FloatBounds.{Within}
 use Rattle.laws.proofs.laws.FloatBounds.{holds-small, holds-value, within-of-tests}
@@ -105,5 +107,20 @@ sample-within x e =
     within-of-tests most (holds-value false (holds-small binary32 1 (lit< tt))) (true-T low (and-left low high e)) (true-T high (and-right low high e))
 
 -- a frame is two samples
-pub two-each : (n samples : ℕ) → n ≤ samples / 2 → 2 * n ≤ samples
+two-each : (n samples : ℕ) → n ≤ samples / 2 → 2 * n ≤ samples
 two-each n samples h = omega arith
+
+-- a sound of n frames that fits both buffers, each where it is from that one
+pub sound-held : (samples : Recordings) (from n : ℕ) → from ≤ fromVisitor
+    → cond (eqb from fromHouse) (leb n (length (samples .house) / 2)) true ≡ true
+    → cond (eqb from fromVisitor) (leb n (length (samples .visitor) / 2)) true ≡ true
+    → 2 * n ≤ length (recording samples from)
+unfolding recording
+sound-held samples from n most house visitor = go (eqb from fromHouse) refl house
+  where
+    go : (b : Bool) → eqb from fromHouse ≡ b → cond b (leb n (length (samples .house) / 2)) true ≡ true → 2 * n ≤ length (cond b (samples .house) (samples .visitor))
+    go true e fit = two-each n (length (samples .house)) (leb-true n (length (samples .house) / 2) fit)
+    go false e fit =
+        let other = eqb-false from fromHouse e in
+        let is : from ≡ fromVisitor = omega arith in
+        two-each n (length (samples .visitor)) (leb-true n (length (samples .visitor) / 2) (rw (eq-eqb from fromVisitor is) at visitor))

@@ -19,7 +19,7 @@ use Rattle.chunk.specs.declared.chunk.ChunkRoute.{ChunkRoute}
 use Rattle.chunk.specs.declared.chunk.ChunkSound.{ChunkSound}
 use Rattle.chunk.specs.declared.chunk.Chunk.{Chunk}
 use Rattle.chunk.specs.Chunk.{ChunkPlaces, absentLevel, absentTrackRow, absentRouteRow, absentSoundRow, trackRow, routeRow, soundRow, sendRow}
-use Rattle.chunk.specs.Flat.{advancingFrom, routeTracksFrom, routeSendsFrom, soundTracksFrom, soundStartsFrom, soundLeftsFrom}
+use Rattle.chunk.specs.Flat.{advancingFrom, routeTracksFrom, routeSendsFrom, soundTracksFrom, soundFromsFrom, soundStartsFrom, soundLeftsFrom}
 use Rattle.chunk.specs.Flat.{framesPlace, trackCountPlace, sendCountPlace, routeCountPlace, soundCountPlace, placesSize}
 use Rattle.chunk.specs.Flat.{levelSize, trackLevels, sendLevelsFrom, mainFrom, levelsSize}
 use Rattle.chunk.specs.Flat.{column, levelFrom, trackFrom, sendFrom, routeFrom, soundFrom, chunkFrom, flag, soundPlaces, placesOf, levelValues, levelsOf, amplitudesOf}
@@ -138,15 +138,25 @@ module _ (c : Chunk) where
   unfolding soundPlaces
   place-sound-track k h = past-routes k ∙ column-here _ soundLines _ k 0 h
 
+  pub place-sound-from : (k : ℕ) → k < soundLines → getD (placesOf c) (soundFromsFrom + k) 0 ≡ soundRow c k .from
+  unfolding soundPlaces
+  place-sound-from k h = place (soundFromsFrom + k) (soundTracksFrom + (soundLines + k)) (omega arith) ∙ past-routes (soundLines + k) ∙ column-past _ soundLines _ k 0 ∙ column-here _ soundLines _ k 0 h
+
   pub place-sound-start : (k : ℕ) → k < soundLines → getD (placesOf c) (soundStartsFrom + k) 0 ≡ soundRow c k .start
   unfolding soundPlaces
-  place-sound-start k h = place (soundStartsFrom + k) (soundTracksFrom + (soundLines + k)) (omega arith) ∙ past-routes (soundLines + k) ∙ column-past _ soundLines _ k 0 ∙ column-here _ soundLines _ k 0 h
+  place-sound-start k h =
+      place (soundStartsFrom + k) (soundTracksFrom + (soundLines + (soundLines + k))) (omega arith)
+      ∙ past-routes (soundLines + (soundLines + k))
+      ∙ column-past _ soundLines _ (soundLines + k) 0
+      ∙ column-past _ soundLines _ k 0
+      ∙ column-here _ soundLines _ k 0 h
 
   pub place-sound-left : (k : ℕ) → k < soundLines → getD (placesOf c) (soundLeftsFrom + k) 0 ≡ soundRow c k .left
   unfolding soundPlaces
   place-sound-left k h =
-      place (soundLeftsFrom + k) (soundTracksFrom + (soundLines + (soundLines + k))) (omega arith)
-      ∙ past-routes (soundLines + (soundLines + k))
+      place (soundLeftsFrom + k) (soundTracksFrom + (soundLines + (soundLines + (soundLines + k)))) (omega arith)
+      ∙ past-routes (soundLines + (soundLines + (soundLines + k)))
+      ∙ column-past _ soundLines _ (soundLines + (soundLines + k)) 0
       ∙ column-past _ soundLines _ (soundLines + k) 0
       ∙ column-past _ soundLines _ k 0
       ∙ column-here _ soundLines _ k 0 h
@@ -155,8 +165,9 @@ module _ (c : Chunk) where
   pub place-count : (k i : ℕ) → i ≡ framesPlace + k → getD (placesOf c) i 0 ≡ getD (c .frames ∷ c .«track_count» ∷ c .«send_count» ∷ c .«route_count» ∷ c .«sound_count» ∷ []) k 0
   unfolding soundPlaces
   place-count k i e =
-      place i (soundTracksFrom + (soundLines + (soundLines + (soundLines + k)))) (omega arith)
-      ∙ past-routes (soundLines + (soundLines + (soundLines + k)))
+      place i (soundTracksFrom + (soundLines + (soundLines + (soundLines + (soundLines + k))))) (omega arith)
+      ∙ past-routes (soundLines + (soundLines + (soundLines + (soundLines + k))))
+      ∙ column-past _ soundLines _ (soundLines + (soundLines + (soundLines + k))) 0
       ∙ column-past _ soundLines _ (soundLines + (soundLines + k)) 0
       ∙ column-past _ soundLines _ (soundLines + k) 0
       ∙ column-past _ soundLines _ k 0
@@ -249,8 +260,8 @@ module _ (c : Chunk) where
   sound-flat : (k : ℕ) → k < soundLines → soundFrom (placesOf c) k ≡ soundRow c k
   unfolding soundFrom
   sound-flat k h =
-      ap₂ (λ (x y : ℕ). record { track = x; start = y; left = getD (placesOf c) (soundLeftsFrom + k) 0 }) (place-sound-track c k h) (place-sound-start c k h)
-      ∙ ap (λ (x : ℕ). record { track = soundRow c k .track; start = soundRow c k .start; left = x }) (place-sound-left c k h)
+      ap₂ (λ (x y : ℕ). record { track = x; start = y; left = getD (placesOf c) (soundLeftsFrom + k) 0; from = getD (placesOf c) (soundFromsFrom + k) 0 }) (place-sound-track c k h) (place-sound-start c k h)
+      ∙ ap₂ (λ (x y : ℕ). record { track = soundRow c k .track; start = soundRow c k .start; left = x; from = y }) (place-sound-left c k h) (place-sound-from c k h)
 
   with-same : ChunkPlaces c → chunkWith (getD (placesOf c) framesPlace 0) (getD (placesOf c) trackCountPlace 0) (column (trackFrom (placesOf c) (levelsOf c)) trackPlaces) (getD (placesOf c) sendCountPlace 0) (column (sendFrom (levelsOf c)) sendLines) (getD (placesOf c) routeCountPlace 0) (column (routeFrom (placesOf c) (amplitudesOf c)) routeLines) (getD (placesOf c) soundCountPlace 0) (column (soundFrom (placesOf c)) soundLines) (levelFrom (levelsOf c) mainFrom) ≡ chunkWith (c .frames) (c .«track_count») (c .tracks) (c .«send_count») (c .sends) (c .«route_count») (c .routes) (c .«sound_count») (c .sounds) (c .main)
   with-same h =

@@ -1,10 +1,10 @@
 -- A chunk can be made of the mixer, and mixed. Assumes nothing.
-use mathlib.Core.List.{List}
 use Prim.Native.Nat.{ℕ, _+_, _-_, _*_, _^_, _≤_, _<_}
 use native.Mathlib.Nat.{le-trans}
 use native.Mathlib.Omega.{arith}
 use lib.ListN.{length, getD, replicate, length-replicate}
-use lib.Ieee.{Float}
+use Rattle.recordings.specs.Recordings.{Recordings, recording}
+use Rattle.recordings.proofs.laws.Recordings.{Lent, lent-recording}
 use Rattle.limits.specs.Limits.{trackPlaces, sendLines, routeLines, soundLines, chunkFramesMost}
 use Rattle.parameter.specs.declared.parameter.Parameter.{Parameter}
 use Rattle.parameter.specs.Range.{ParameterIn, valueRange}
@@ -29,12 +29,12 @@ counted first count len h k = omega arith
 whole : (first count done len : ℕ) → done ≤ count → 2 * (first + count) ≤ len → 2 * (first + done + (count - done)) ≤ len
 whole first count done len h k = omega arith
 
-pub mixes : (s : Scene) (samples : List Float) (c : ℕ) (m : Mixer) → SceneOk s → SamplesOk s samples → length samples < 2 ^ 63 → MixerOk s c m → MixerMixes s m
+pub mixes : (s : Scene) (samples : Recordings) (c : ℕ) (m : Mixer) → SceneOk s → SamplesOk s samples → Lent samples → MixerOk s c m → MixerMixes s m
 mixes s samples c m ok there short h =
     record {
       routes = λ r b. value-admitted (parameterOf (m .routes) r .«raw_value» .0) (h .routes r b .value);
       played = h .played;
-      room = λ k b. counted (soundLine s k .first) (soundLine s k .count) (length samples) (there .sounds k b) short;
+      room = λ k b. counted (soundLine s k .first) (soundLine s k .count) (length (recording samples (soundLine s k .from))) (there .sounds k b) (lent-recording samples (soundLine s k .from) short);
     }
 
 -- ---- the chunk
@@ -65,13 +65,13 @@ module _ (s : Scene) (c : ℕ) (m : Mixer) (ok : SceneOk s) (h : MixerOk s c m) 
       changed-array (replicate routeLines emptyRouteRow) (λ r x. chunkRoute (getD (s .routes) r absentRouteLine) (parameterOf (m .routes) r)) (ok .routeCount) (length-replicate routeLines emptyRouteRow)
       (λ r b. (ok .routes r b .send .0, le-trans (ok .routes r b .send .1) (ok .sendCount)))
 
-  sounds-ok : (samples : List Float) → SamplesOk s samples → ArrayOk (λ k x. 2 * (x .start + x .left) ≤ length samples) (s .«sound_count») soundLines absentSoundRow (chunkSounds (s .sounds) (s .«sound_count») (m .played))
+  sounds-ok : (samples : Recordings) → SamplesOk s samples → ArrayOk (λ k x. 2 * (x .start + x .left) ≤ length (recording samples (x .from))) (s .«sound_count») soundLines absentSoundRow (chunkSounds (s .sounds) (s .«sound_count») (m .played))
   unfolding chunkSounds chunkSound
   sounds-ok samples there =
       changed-array (replicate soundLines emptySoundRow) (λ k x. chunkSound (soundLine s k) (getD (m .played) k 0)) (ok .soundCount) (length-replicate soundLines emptySoundRow)
-      (λ k b. whole (soundLine s k .first) (soundLine s k .count) (getD (m .played) k 0) (length samples) (h .played k b) (there .sounds k b))
+      (λ k b. whole (soundLine s k .first) (soundLine s k .count) (getD (m .played) k 0) (length (recording samples (soundLine s k .from))) (h .played k b) (there .sounds k b))
 
-pub chunk-ok : (s : Scene) (samples : List Float) (c n : ℕ) (m : Mixer) → SceneOk s → SamplesOk s samples → MixerOk s c m → n ≤ chunkFramesMost → ChunkOk (chunkOf s n m) samples
+pub chunk-ok : (s : Scene) (samples : Recordings) (c n : ℕ) (m : Mixer) → SceneOk s → SamplesOk s samples → MixerOk s c m → n ≤ chunkFramesMost → ChunkOk (chunkOf s n m) samples
 unfolding chunkOf
 chunk-ok s samples c n m ok there h few =
     record {

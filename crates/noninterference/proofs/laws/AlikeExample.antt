@@ -8,6 +8,7 @@ use Prim.Native.Nat.{ℕ, zero, suc}
 use lib.Dec.{eqb}
 use lib.ListN.{getD}
 use lib.Ieee.{Float, toBits, fits, le, neg, ofInt, round}
+use Rattle.recordings.specs.Recordings.{Recordings, recordings, recording}
 use Rattle.laws.specs.Float.{AreF32, posZero, one}
 use Rattle.laws.specs.Loop.{upto, changed}
 use Rattle.laws.specs.Kept.{rank, keptOf}
@@ -50,7 +51,7 @@ abbrev routeRows : List (List ℕ)
 routeRows = row (6 ∷ 1 ∷ 0 ∷ []) ∷ row (3 ∷ 1 ∷ 0 ∷ []) ∷ []
 
 abbrev soundRows : List (List ℕ)
-soundRows = row (1 ∷ 0 ∷ 1 ∷ []) ∷ row (4 ∷ 0 ∷ 2 ∷ []) ∷ row (3 ∷ 1 ∷ 1 ∷ []) ∷ []
+soundRows = row (1 ∷ 0 ∷ 1 ∷ 0 ∷ []) ∷ row (4 ∷ 0 ∷ 2 ∷ 0 ∷ []) ∷ row (3 ∷ 1 ∷ 1 ∷ 0 ∷ []) ∷ []
 
 -- the pause that holds line 5; a volume of each of the two routes; a volume of line 1, and one of line 4, which is removed
 abbrev orderRows : List (List ℕ)
@@ -62,13 +63,13 @@ scene tracks routes orders = headRows ∷ [] ∷ tracks ∷ sendRows ∷ routes 
 abbrev first : Tables
 first = scene (tracksWith 60000) routeRows orderRows
 
-abbrev firstSamples : List Float
-firstSamples = posZero ∷ one ∷ one ∷ posZero ∷ []
+abbrev firstSamples : Recordings
+firstSamples = recordings (posZero ∷ one ∷ one ∷ posZero ∷ []) []
 
 abbrev firstChoice : Choice
 firstChoice t = eqb t 0 || eqb t 4
 
--- ---- what is left: lines 1, 3 and 5 of the tracks, the second route, the third sound and three orders
+-- ---- what is left: lines 1, 3 and 5 of the tracks, the second route, the third sound, from the visitor, and three orders
 
 abbrev secondOf : ℕ → Tables
 secondOf place =
@@ -77,22 +78,25 @@ secondOf place =
     ∷ (track 0 60000 ∷ track 0 7 ∷ track 2 0 ∷ [])
     ∷ sendRows
     ∷ (row (2 ∷ 1 ∷ 0 ∷ []) ∷ [])
-    ∷ (row (2 ∷ place ∷ 1 ∷ []) ∷ [])
+    ∷ (row (2 ∷ place ∷ 1 ∷ 1 ∷ []) ∷ [])
     ∷ (order 4 3 0 0 ∷ order 3 1 4 5 ∷ order 1 1 70000 5 ∷ [])
     ∷ []
 
 abbrev second : Tables
 second = secondOf 0
 
-abbrev secondSamples : List Float
-secondSamples = one ∷ posZero ∷ []
+abbrev visiting : List Float → Recordings
+visiting visitor = recordings (one ∷ posZero ∷ []) visitor
+
+abbrev secondSamples : Recordings
+secondSamples = visiting (one ∷ posZero ∷ [])
 
 abbrev secondChoice : Choice
 secondChoice t = eqb t 0 || eqb t 2
 
 -- ---- the tests
 
-abbrev alikeFirst : Tables → List Float → Choice → Bool
+abbrev alikeFirst : Tables → Recordings → Choice → Bool
 alikeFirst = alike first firstSamples firstChoice
 
 abbrev withOrders : List (List ℕ) → Tables
@@ -109,11 +113,11 @@ passing =
     ∷ silentWith 60000 (row (1 ∷ 1 ∷ 0 ∷ []) ∷ []) orderRows
     ∷ []
 
--- another frame; another choice; another order; orders turned about.
+-- another frame where the sound is from; another choice; another order; orders turned about.
 -- Line 1 at -59.999 dB, by its line or by an order; a route of line 4, below it. Line 5 resumed; paused a second time, with a length, or not at all
 abbrev failing : List Bool
 failing =
-    alikeFirst second (one ∷ one ∷ []) secondChoice
+    alikeFirst second (visiting (one ∷ one ∷ [])) secondChoice
     ∷ alikeFirst second secondSamples (eqb 0)
     ∷ alikeFirst (withOrders (order 4 5 0 0 ∷ order 3 2 5 5 ∷ order 1 1 70000 5 ∷ [])) firstSamples firstChoice
     ∷ alikeFirst (withOrders (order 3 2 4 5 ∷ order 4 5 0 0 ∷ order 1 1 70000 5 ∷ [])) firstSamples firstChoice
@@ -127,7 +131,7 @@ failing =
     ∷ []
 
 pub tests : (passing ≡ map (λ b. true) passing) × (failing ≡ map (λ b. false) failing)
-unfolding alike sameTables same unplaced chosenLeft framesLeft sameBits silentChoice toBits leftTables linesLeft keptOf changed renumbered renumberedOrder newLine rank insideWithin inside removedTrack removedRoute removedSound removedOrder namesRemoved parentOf muted silentVolume names held pausesOrResumes isHolding every upto
+unfolding recording alike sameTables same unplaced chosenLeft framesLeft sameBits silentChoice toBits leftTables linesLeft keptOf changed renumbered renumberedOrder newLine rank insideWithin inside removedTrack removedRoute removedSound removedOrder namesRemoved parentOf muted silentVolume names held pausesOrResumes isHolding every upto
 tests = (refl, refl)
 
 pub alike-example : alikeFirst second secondSamples secondChoice ≡ true
@@ -139,20 +143,24 @@ pub accepted-example : (firstNo (tableQuestions first firstSamples ++ ((10, eqb 
 unfolding firstNo tableQuestions linesOk rangesOk everyLine inRange lineInRange orderFits volumeFits partFits millisFit powerFits referencesOk namesLine lineNamesLine indexNamesLine indexTable depthsFit withinDepth parentOf routesFit newPair samePair soundsFit soundFits samplesOk sampleOk outputLength every le neg ofInt round
 accepted-example = (refl, refl)
 
-first-fits : AreF32 firstSamples
+none-fits : AreF32 []
 unfolding fits
-first-fits zero h = tt
-first-fits (suc zero) h = tt
-first-fits (suc (suc zero)) h = tt
-first-fits (suc (suc (suc zero))) h = tt
-first-fits (suc (suc (suc (suc i)))) h = tt
+none-fits i h = tt
 
-second-fits : AreF32 secondSamples
+four-fits : AreF32 (posZero ∷ one ∷ one ∷ posZero ∷ [])
 unfolding fits
-second-fits zero h = tt
-second-fits (suc zero) h = tt
-second-fits (suc (suc i)) h = tt
+four-fits zero h = tt
+four-fits (suc zero) h = tt
+four-fits (suc (suc zero)) h = tt
+four-fits (suc (suc (suc zero))) h = tt
+four-fits (suc (suc (suc (suc i)))) h = tt
+
+two-fit : AreF32 (one ∷ posZero ∷ [])
+unfolding fits
+two-fit zero h = tt
+two-fit (suc zero) h = tt
+two-fit (suc (suc i)) h = tt
 
 pub left-example : SceneLeft (keptTracks first firstChoice) firstChoice (quiet first firstChoice) (sceneOf first) firstSamples (sceneOf (leftTables second secondChoice)) secondSamples
 left-example =
-    first-left first firstSamples firstChoice second secondSamples secondChoice alike-example second-fits 4 (tables-pass first firstSamples 4 (accepted-example .0)) first-fits
+    first-left first firstSamples firstChoice second secondSamples secondChoice alike-example (two-fit, two-fit) 4 (tables-pass first firstSamples 4 (accepted-example .0)) (four-fits, none-fits)

@@ -1,10 +1,9 @@
 -- The loop over the tracks right below a line: below a line that is kept and not chosen all are kept, below a chosen track none is. Assumes nothing.
 use mathlib.Core.Path.{_≡_, refl, sym, ap, _∙_, subst}
 use mathlib.Core.Bool.{Bool, cond, not}
-use mathlib.Core.List.{List}
 use Prim.Native.Nat.{ℕ, suc, _<_}
 use lib.Dec.{T, eqb, eqb→eq}
-use lib.Ieee.{Float}
+use Rattle.recordings.specs.Recordings.{Recordings}
 use Rattle.laws.proofs.laws.Choice.{cond-false}
 use Rattle.laws.specs.Loop.{downto}
 use Rattle.laws.proofs.laws.Loop.{downto-holds}
@@ -32,7 +31,7 @@ below-still c line step a h =
     downto-holds (λ j x. x ≡ a) (turn c line step) (c .«track_count») a refl
     (λ j l x e. picked-if (λ (y : Frame). y ≡ a) (eqb (trackRow c j .parent) line) (step (suc j) x) x (λ t. ap (step (suc j)) e ∙ h j l (eqb→eq (trackRow c j .parent) line t)) e)
 
-module _ {keep chosen quiet : ℕ → Bool} {c : Chunk} {samples : List Float} {c' : Chunk} {samples' : List Float} (w : Without keep chosen quiet c samples c' samples') where
+module _ {keep chosen quiet : ℕ → Bool} {c : Chunk} {samples : Recordings} {c' : Chunk} {samples' : Recordings} (w : Without keep chosen quiet c samples c' samples') where
   stands : (j : ℕ) → j < c .«track_count» → T (keep j) → T (openLine keep chosen (trackRow c j .parent))
   stands j l t = subst T (w .tree j l) t
 

@@ -2,7 +2,6 @@
 -- 2 ^ (15 d), and every sum is finite. Assumes nothing.
 use mathlib.Core.Path.{_≡_, sym, subst}
 use mathlib.Core.Bool.{Bool, cond}
-use mathlib.Core.List.{List}
 use Prim.Native.Nat.{ℕ, zero, suc, _+_, _-_, _*_, _^_, _≤_, _<_}
 use native.Mathlib.Nat.{one-mul, mul-le-mul-right}
 use native.Mathlib.Omega.{arith}
@@ -10,6 +9,7 @@ use lib.Dec.{eqb, lit<, lit≤}
 use lib.Pow.{pow-add, pow-pos}
 use lib.Ieee.{Float, binary32, binary64, add, mul, sub, neg, ofInt}
 use lib.Ieee.Fits.{add-fits}
+use Rattle.recordings.specs.Recordings.{Recordings}
 use Rattle.limits.specs.Limits.{soundLines, trackDepth, trackPlaces}
 use Rattle.laws.specs.Loop.{downto}
 use Rattle.laws.proofs.laws.Loop.{downto-holds}
@@ -103,7 +103,7 @@ mul-pow : (a b : ℕ) {x y : Float} → a + b ≤ 127 → Within x (2 ^ a) 1 →
 mul-pow a b {x} {y} h v w =
     subst (λ (k : ℕ). Within (mul binary32 x y) k 1) (sym (pow-add 2 a b)) (mul-within {c = 1} {d = 1} (subst (λ (k : ℕ). Holds binary32 k 1) (pow-add 2 a b) (holds-pow binary32 (a + b) h)) v w)
 
-module _ (c : Chunk) (samples : List Float) (ok : ChunkOk c samples) (i : ℕ) (inside : i < c .frames)
+module _ (c : Chunk) (samples : Recordings) (ok : ChunkOk c samples) (i : ℕ) (inside : i < c .frames)
     (heard : (k : ℕ) → k < c .«sound_count» → Both (Size 1) (soundFrame samples (soundRow c k) i)) where
   -- a track's frame before its volume, where the tracks below are within 2 ^ u
   sum-within : (d u line : ℕ) → u ≤ 121 → ((j : ℕ) → j < c .«track_count» → Both (Size (2 ^ u)) (trackFrame d c samples (suc j) i)) → Both (Size (2 ^ (7 + u))) (trackSum d c samples line i)

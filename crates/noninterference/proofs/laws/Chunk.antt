@@ -4,11 +4,10 @@
 use mathlib.Core.Path.{_≡_}
 use mathlib.Core.Logic.{_⊎_}
 use mathlib.Core.Bool.{Bool, false}
-use mathlib.Core.List.{List}
 use Prim.Native.Nat.{ℕ, suc, _<_}
 use lib.Dec.{T}
-use lib.Ieee.{Float}
 use lib.Ieee.Scale.{finite}
+use Rattle.recordings.specs.Recordings.{Recordings}
 use Rattle.laws.specs.Kept.{rank}
 use Rattle.laws.proofs.laws.Float.{Zero}
 use Rattle.laws.specs.FloatBounds.{Within}
@@ -39,7 +38,7 @@ pub record Muted (quiet : ℕ → Bool) (c : Chunk) (p : ℕ) : Type 0 where
   pub silent : (i : ℕ) → i < c .frames → Zero (levelAmplitude (trackRow c p .volume) (amountAt i (c .frames)) .0)
   pub below : (j : ℕ) → j < c .«track_count» → trackRow c j .parent ≡ suc p → T (quiet j)
 
-pub record Without (keep chosen quiet : ℕ → Bool) (c : Chunk) (samples : List Float) (c' : Chunk) (samples' : List Float) : Type 0 where
+pub record Without (keep chosen quiet : ℕ → Bool) (c : Chunk) (samples : Recordings) (c' : Chunk) (samples' : Recordings) : Type 0 where
   -- c' is what is left of c
   pub same-frames : c' .frames ≡ c .frames
   pub same-main : c' .main ≡ c .main

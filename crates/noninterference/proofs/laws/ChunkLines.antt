@@ -1,12 +1,12 @@
 -- The lines of the chunk that is made of a scene and a mixer. Assumes nothing.
 use mathlib.Core.Path.{_≡_, refl, sym, ap, _∙_, subst}
 use mathlib.Core.Bool.{Bool, true, false, cond}
-use mathlib.Core.List.{List}
 use Prim.Native.Nat.{ℕ, _+_, _-_, _*_, _≤_, _<_}
 use native.Mathlib.Omega.{arith}
 use lib.Dec.{T, ltb, ltb→lt}
 use lib.ListN.{length, getD, replicate, length-replicate}
-use lib.Ieee.{Float, nan}
+use lib.Ieee.{nan}
+use Rattle.recordings.specs.Recordings.{Recordings, recording}
 use Rattle.limits.specs.Limits.{routeLines, soundLines, trackPlaces}
 use Rattle.laws.specs.Loop.{changed}
 use Rattle.laws.proofs.laws.Loop.{changed-below}
@@ -26,6 +26,7 @@ use Rattle.mixer_chunk.specs.ChunkOf.{chunkTrack, chunkRoute, chunkSound, chunk
 use Rattle.frame.specs.Running.{Both}
 use Rattle.track.proofs.laws.Running.{both-zero, picked-if}
 use Rattle.noninterference.proofs.laws.Bounds.{Size}
+use Rattle.noninterference.proofs.laws.SceneLeft.{lineFrame}
 use Rattle.chunk.specs.Chunk as chunk
 
 -- a table that is filled line by line
@@ -54,13 +55,13 @@ where-true b b' {x} {x'} z e h = ap (λ (c : Bool). cond c x' z) e ∙ go b h
     go true p = p tt
     go false p = refl
 
-module _ (samples samples' : List Float) (line line' : SoundLine) (count : line' .count ≡ line .count)
-    (frames : (j : ℕ) → j < line .count → sampleFrame samples' (line' .first + j) ≡ sampleFrame samples (line .first + j)) (i : ℕ) where
+module _ (samples samples' : Recordings) (line line' : SoundLine) (count : line' .count ≡ line .count)
+    (frames : (j : ℕ) → j < line .count → lineFrame samples' line' j ≡ lineFrame samples line j) (i : ℕ) where
   plays-from : (done : ℕ) → soundFrame samples' (chunkSound line' done) i ≡ soundFrame samples (chunkSound line done) i
   unfolding soundFrame chunkSound
   plays-from done =
       where-true (ltb i (line .count - done)) (ltb i (line' .count - done)) zeroFrame (ap (λ (n : ℕ). ltb i (n - done)) count)
-      (λ t. ap (sampleFrame samples') (moved (line' .first) done i) ∙ frames (done + i) (inside (line .count) done i (ltb→lt i (line .count - done) t)) ∙ ap (sampleFrame samples) (sym (moved (line .first) done i)))
+      (λ t. ap (sampleFrame (recording samples' (line' .from))) (moved (line' .first) done i) ∙ frames (done + i) (inside (line .count) done i (ltb→lt i (line .count - done) t)) ∙ ap (sampleFrame (recording samples (line .from))) (sym (moved (line .first) done i)))
     where
       moved : (a b c : ℕ) → a + b + c ≡ a + (b + c)
       moved a b c = omega arith
@@ -72,14 +73,15 @@ module _ (samples samples' : List Float) (line line' : SoundLine) (count : line'
   plays-same {done} {done'} e = ap (λ (d : ℕ). soundFrame samples' (chunkSound line' d) i) e ∙ plays-from done
 
 -- samples within 1 are heard within 1
-pub heard-within : (samples : List Float) → ((j : ℕ) → j < length samples → Within (getD samples j nan) 1 1) → (x : ChunkSound) → 2 * (x .start + x .left) ≤ length samples → (i : ℕ)
+pub heard-within : (samples : Recordings) → ((from j : ℕ) → j < length (recording samples from) → Within (getD (recording samples from) j nan) 1 1) → (x : ChunkSound) → 2 * (x .start + x .left) ≤ length (recording samples (x .from)) → (i : ℕ)
     → Both (Size 1) (soundFrame samples x i)
 unfolding soundFrame sampleFrame
 heard-within samples h x b i =
-    picked-if (Both (Size 1)) (ltb i (x .left)) (sampleFrame samples (x .start + i)) zeroFrame
+    picked-if (Both (Size 1)) (ltb i (x .left)) (sampleFrame (recording samples (x .from)) (x .start + i)) zeroFrame
     (λ t.
     let l = ltb→lt i (x .left) t in
-    record { left = h (2 * (x .start + i)) (even (x .start) (x .left) i (length samples) b l); right = h (2 * (x .start + i) + 1) (odd (x .start) (x .left) i (length samples) b l) })
+    let n = length (recording samples (x .from)) in
+    record { left = h (x .from) (2 * (x .start + i)) (even (x .start) (x .left) i n b l); right = h (x .from) (2 * (x .start + i) + 1) (odd (x .start) (x .left) i n b l) })
     (both-zero (Size 1) (within-zero positive-zero))
   where
     even : (a c j n : ℕ) → 2 * (a + c) ≤ n → j < c → 2 * (a + j) < n

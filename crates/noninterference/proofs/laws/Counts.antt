@@ -2,11 +2,10 @@
 use mathlib.Core.Path.{_≡_, refl, sym, ap, ap₂, _∙_, subst}
 use mathlib.Core.Logic.{inl, inr}
 use mathlib.Core.Bool.{Bool, false, not}
-use mathlib.Core.List.{List}
 use Prim.Native.Nat.{ℕ, _<_}
 use lib.Dec.{T, T-not, not-T, eqb}
-use lib.Ieee.{Float}
 use lib.Ieee.Bits.{is-false}
+use Rattle.recordings.specs.Recordings.{Recordings}
 use Rattle.laws.specs.Kept.{rank}
 use Rattle.scene.specs.declared.scene.Scene.{Scene}
 use Rattle.scene.specs.declared.scene.OrderLine.{OrderLine}
@@ -61,7 +60,7 @@ module _ (keep : ℕ → Bool) (s : Scene) where
 
 -- ---- the orders that count
 
-module _ {keep chosen quiet : ℕ → Bool} {s : Scene} {samples : List Float} {e : Scene} {samples' : List Float} (w : SceneLeft keep chosen quiet s samples e samples')
+module _ {keep chosen quiet : ℕ → Bool} {s : Scene} {samples : Recordings} {e : Scene} {samples' : Recordings} (w : SceneLeft keep chosen quiet s samples e samples')
     (i : ℕ) (there : i < s .«order_count») (kept : T (keptOrder keep s i)) where
   pub counts-same : (block : ℕ) → counts (e .orders) (e .«order_count») block (rank (keptOrder keep s) i) ≡ counts (s .orders) (s .«order_count») block i
   counts-same block =

@@ -3,13 +3,13 @@
 use mathlib.Core.Path.{_≡_, refl}
 use mathlib.Core.Logic.{_⊎_, inr}
 use mathlib.Core.Bool.{Bool, true, false}
-use mathlib.Core.List.{List, [], _∷_}
+use mathlib.Core.List.{[], _∷_}
 use Prim.Native.Nat.{ℕ, zero, suc, _+_, _*_, _≤_, _<_}
 use native.Mathlib.Omega.{arith}
 use lib.Dec.{T, lit≤}
-use lib.Ieee.{Float}
 use lib.Ieee.Scale.{finite}
 use lib.ListN.{length, replicate}
+use Rattle.recordings.specs.Recordings.{Recordings, recordings, fromVisitor, recording}
 use Rattle.limits.specs.Limits.{routeLines, sendLines}
 use Rattle.laws.specs.Kept.{rank}
 use Rattle.laws.specs.Float.{posZero, one}
@@ -56,10 +56,13 @@ abbrev route : ChunkRoute
 route = record { track = 1; send = 1; amplitude = record { 0 = one } }
 
 abbrev sound : ℕ → ChunkSound
-sound line = record { track = line; start = 0; left = 1 }
+sound line = record { track = line; start = 0; left = 1; from = fromVisitor }
 
-abbrev samples : List Float
-samples = one ∷ one ∷ []
+abbrev samples : Recordings
+samples = recordings [] (one ∷ one ∷ [])
+
+abbrev none : Recordings
+none = recordings [] []
 
 abbrev whole : Chunk
 whole =
@@ -110,6 +113,7 @@ only P a zero l = a
 only P a (suc j) l = absurd (omega arith)
 
 whole-ok : ChunkOk whole samples
+unfolding recording
 whole-ok =
     record {
       short = lit≤ tt;
@@ -122,7 +126,7 @@ whole-ok =
       sendLevels = only (λ s. LevelInRange (sendRow whole s)) unity-in;
       mainLevel = unity-in;
       routed = only (λ r. (1 ≤ routeRow whole r .send) × (routeRow whole r .send ≤ sendLines)) (lit≤ tt, lit≤ tt);
-      held = two (λ k. 2 * (soundRow whole k .start + soundRow whole k .left) ≤ length samples) (lit≤ tt) (lit≤ tt);
+      held = two (λ k. 2 * (soundRow whole k .start + soundRow whole k .left) ≤ length (recording samples (soundRow whole k .from))) (lit≤ tt) (lit≤ tt);
       arrays = record { tracks = refl; sends = refl; routes = refl; sounds = refl };
     }
 
@@ -137,15 +141,15 @@ one-within : Within one 1 1
 one-within = record { is-finite = tt; size = lit≤ tt }
 
 played : (i : ℕ) → i < 1 → Within (soundFrame samples (sound 1) i .left) 1 1 × Within (soundFrame samples (sound 1) i .right) 1 1
-unfolding soundFrame sampleFrame
+unfolding recording soundFrame sampleFrame
 played = only (λ i. Within (soundFrame samples (sound 1) i .left) 1 1 × Within (soundFrame samples (sound 1) i .right) 1 1) (one-within, one-within)
 
 no-route : (j : ℕ) → T (later j) → 1 ≡ suc j → ⊥
 no-route zero q e = q
 no-route (suc j) q e = omega arith
 
-pub example : Without first first later whole samples rest []
-unfolding rank newLine keptLine openLine soundFrame sampleFrame
+pub example : Without first first later whole samples rest none
+unfolding recording rank newLine keptLine openLine soundFrame sampleFrame
 example =
     record {
       same-frames = refl;
@@ -160,7 +164,7 @@ example =
       kept-sounds =
           two (λ k. T (keptSound first first whole k) → soundRow rest (rank (keptSound first first whole) k) .track ≡ newLine first (soundRow whole k .track)) (λ t. absurd t) (λ t. absurd t);
       kept-frames =
-          two (λ k. T (keptSound first first whole k) → (i : ℕ) → i < 1 → soundFrame [] (soundRow rest (rank (keptSound first first whole) k)) i ≡ soundFrame samples (soundRow whole k) i)
+          two (λ k. T (keptSound first first whole k) → (i : ℕ) → i < 1 → soundFrame none (soundRow rest (rank (keptSound first first whole) k)) i ≡ soundFrame samples (soundRow whole k) i)
           (λ t. absurd t) (λ t. absurd t);
       tree = two (λ j. first j ≡ openLine first first (trackRow whole j .parent)) refl refl;
       chosen-silent = two (λ p. T (first p) → (trackRow whole p .advancing ≡ false) ⊎ Muted later whole p) (λ t. inr silent-here) (λ t. absurd t);
@@ -172,5 +176,5 @@ example =
       route-amplitude = only (λ r. T (finite (routeRow whole r .amplitude .0))) tt;
     }
 
-pub same-mix : mixedFrame whole samples 0 ≡ mixedFrame rest [] 0
+pub same-mix : mixedFrame whole samples 0 ≡ mixedFrame rest none 0
 same-mix = mixed-same example 0 (lit≤ tt)

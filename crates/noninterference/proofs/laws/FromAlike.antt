@@ -8,8 +8,7 @@ use Prim.Native.Nat.{ℕ, _+_, _<_}
 use native.Mathlib.Nat.{lt-trans}
 use lib.Dec.{T, eqb, lit<}
 use lib.ListN.{length, getD}
-use lib.Ieee.{Float}
-use Rattle.laws.specs.Float.{AreF32}
+use Rattle.recordings.specs.Recordings.{Recordings, recording}
 use Rattle.limits.specs.Limits.{clockLines, trackLines, sendLines, routeLines, orderLines}
 use Rattle.laws.proofs.laws.Choice.{and-left, and-right}
 use Rattle.laws.specs.Kept.{rank}
@@ -23,14 +22,14 @@ use Rattle.accepted.specs.Lines.{trackLine, routeLine, soundLine, orderLine, ab
 use Rattle.accepted.proofs.laws.Passed.{TablesPass}
 use Rattle.frame.specs.Frame.{sampleFrame}
 use Rattle.noninterference.specs.Removed.{newLine, Choice, keptTracks, keptRoutes, keptSounds, keptOrders, leftTables, renumbered, renumberedOrder}
-use Rattle.noninterference.specs.Alike.{same, sameTables, chosenLeft, framesLeft, sameBits, silentChoice, alike}
-use Rattle.noninterference.proofs.laws.SceneLeft.{keptOrder, newTrackLine, newRouteLine, newOrderLine, SceneLeft}
+use Rattle.noninterference.specs.Alike.{same, sameTables, chosenLeft, playedSamples, framesLeft, AreSamples, sameBits, silentChoice, alike}
+use Rattle.noninterference.proofs.laws.SceneLeft.{keptOrder, newTrackLine, newRouteLine, newOrderLine, lineFrame, SceneLeft}
 use Rattle.noninterference.proofs.laws.Same.{same-at, SameTables, same-tables, tables-self, frames-self}
 use Rattle.noninterference.proofs.laws.LeftLines.{differ, counted-field, counted-other, left-length, left-count, place-left}
 use Rattle.noninterference.proofs.laws.SceneLines.{sound-at, sound-track-at}
 use Rattle.noninterference.proofs.laws.Silent.{quiet, silent-track, quiet-below, quiet-unrouted}
 use Rattle.noninterference.proofs.laws.KeptLines.{track-new, route-new, order-new, track-kept, routes-kept, sounds-kept, order-kept}
-use Rattle.noninterference.proofs.laws.SoundsLeft.{unplaced-field, unplaced-length, soundsLeft, sound-row, played, played-at, frame-same}
+use Rattle.noninterference.proofs.laws.SoundsLeft.{unplaced-field, unplaced-length, soundsLeft, sound-row, played-at, frame-same}
 
 -- ---- the lines of the scene left
 
@@ -55,7 +54,7 @@ module _ (ts ts' : Tables) (chosen chosen' : Choice) (tables : SameTables (leftT
       place-left routeLines routeOf absentRouteLine (keptRoutes ts chosen) (λ r row. renumbered keep (routeColumn .track) row) (newRouteLine keep) (rowsAt ts routes) (rowsAt (leftTables ts' chosen') routes) (tables .routes)
       (λ r h. route-new keep (getD (rowsAt ts routes) r []))
 
-  orders-left : (samples : List Float) (output : ℕ) → TablesPass ts samples output → (i : ℕ) → i < linesAt ts orders → T (keptOrders ts chosen i)
+  orders-left : (samples : Recordings) (output : ℕ) → TablesPass ts samples output → (i : ℕ) → i < linesAt ts orders → T (keptOrders ts chosen i)
       → orderLine e (rank (keptOrders ts chosen) i) ≡ newOrderLine keep (sceneOf ts) (orderLine (sceneOf ts) i)
   unfolding sceneOf leftTables
   orders-left samples output passed =
@@ -78,27 +77,27 @@ module _ (ts ts' : Tables) (chosen chosen' : Choice) (tables : SameTables (leftT
     sound-new = sound-at (leftTables ts' chosen') newPlace (subst (λ (n : ℕ). newPlace < n) (sym sounds-count) (rank-lt (keptSounds ts chosen) k (linesAt ts sounds) t h))
 
     -- fields other than where the frames stand, before references are counted anew
-    sound-field : (j : ℕ) → j ≢ soundColumn .first → field (getD (rowsAt (leftTables ts' chosen') sounds) newPlace []) j ≡ field (renumbered keep (soundColumn .track) (getD (rowsAt ts sounds) k [])) j
-    sound-field j n =
-        unplaced-field (rowsAt (leftTables ts chosen) sounds) (rowsAt (leftTables ts' chosen') sounds) (tables .sounds) newPlace j n
+    sound-field : (j : ℕ) → j ≢ soundColumn .first → j ≢ soundColumn .from → field (getD (rowsAt (leftTables ts' chosen') sounds) newPlace []) j ≡ field (renumbered keep (soundColumn .track) (getD (rowsAt ts sounds) k [])) j
+    sound-field j n o =
+        unplaced-field (rowsAt (leftTables ts chosen) sounds) (rowsAt (leftTables ts' chosen') sounds) (tables .sounds) newPlace j n o
         ∙ ap (λ (row : List ℕ). field row j) (sound-row ts chosen newPlace ∙ ap (renumbered keep (soundColumn .track)) (keptOf-at (keptSounds ts chosen) (rowsAt ts sounds) k [] t h))
 
     sound-track : soundLine e newPlace .track ≡ newLine keep (soundLine (sceneOf ts) k .track)
     unfolding soundOf
     sound-track =
         ap (λ (x : SoundLine). x .track) sound-new
-        ∙ ap natural (sound-field 0 (differ tt))
+        ∙ ap natural (sound-field 0 (differ tt) (differ tt))
         ∙ counted-field keep 0 (getD (rowsAt ts sounds) k [])
         ∙ ap (newLine keep) (sym (sound-track-at ts k))
 
     count-same : natural (field (getD (rowsAt (leftTables ts' chosen') sounds) newPlace []) (soundColumn .count)) ≡ natural (cell (rowsAt ts sounds) k (soundColumn .count))
-    count-same = ap natural (sound-field 2 (differ tt) ∙ counted-other keep 0 (getD (rowsAt ts sounds) k []) 2 (differ tt))
+    count-same = ap natural (sound-field 2 (differ tt) (differ tt) ∙ counted-other keep 0 (getD (rowsAt ts sounds) k []) 2 (differ tt))
 
     sound-count : soundLine e newPlace .count ≡ soundLine (sceneOf ts) k .count
     unfolding soundOf
     sound-count = ap (λ (x : SoundLine). x .count) sound-new ∙ count-same ∙ ap (λ (x : SoundLine). x .count) (sym (sound-at ts k h))
 
-    module _ (samples samples' : List Float) (fit : AreF32 samples) (fit' : AreF32 samples')
+    module _ (samples samples' : Recordings) (fit : AreSamples samples) (fit' : AreSamples samples')
         (frames : same (same sameBits) (framesLeft ts chosen samples) (framesLeft ts' chosen' samples') ≡ true) where
       abbrev row' : List ℕ
       row' = getD (soundsLeft ts' chosen') newPlace []
@@ -106,22 +105,23 @@ module _ (ts ts' : Tables) (chosen chosen' : Choice) (tables : SameTables (leftT
       field-new : (j : ℕ) → j ≢ 0 → field (getD (rowsAt (leftTables ts' chosen') sounds) newPlace []) j ≡ field row' j
       field-new j n = ap (λ (row : List ℕ). field row j) (sound-row ts' chosen' newPlace) ∙ counted-other (keptTracks ts' chosen') 0 row' j n
 
-      played-same : same sameBits (played samples (getD (rowsAt ts sounds) k [])) (played samples' row') ≡ true
+      played-same : same sameBits (playedSamples samples (getD (rowsAt ts sounds) k [])) (playedSamples samples' row') ≡ true
       unfolding same
       played-same =
-          ap₂ (same sameBits) (ap (played samples) (sym (keptOf-at (keptSounds ts chosen) (rowsAt ts sounds) k [] t h)) ∙ sym (played-at ts chosen samples newPlace)) (sym (played-at ts' chosen' samples' newPlace))
+          ap₂ (same sameBits) (ap (playedSamples samples) (sym (keptOf-at (keptSounds ts chosen) (rowsAt ts sounds) k [] t h)) ∙ sym (played-at ts chosen samples newPlace)) (sym (played-at ts' chosen' samples' newPlace))
           ∙ same-at (same sameBits) (framesLeft ts chosen samples) (framesLeft ts' chosen' samples') [] refl frames newPlace
 
-      sound-frames : (i : ℕ) → i < soundLine (sceneOf ts) k .count → sampleFrame samples' (soundLine e newPlace .first + i) ≡ sampleFrame samples (soundLine (sceneOf ts) k .first + i)
+      sound-frames : (i : ℕ) → i < soundLine (sceneOf ts) k .count → lineFrame samples' (soundLine e newPlace) i ≡ lineFrame samples (soundLine (sceneOf ts) k) i
       unfolding soundOf
       sound-frames i l =
           let old = sound-at ts k h in
-          let first = ap (λ (x : SoundLine). x .first) old in
-          let first' = ap (λ (x : SoundLine). x .first) sound-new ∙ ap natural (field-new 1 (differ tt)) in
-          ap (λ (n : ℕ). sampleFrame samples' (n + i)) first'
+          let first' = ap natural (field-new 1 (differ tt)) in
+          let from' = ap natural (field-new 3 (differ tt)) in
+          ap (λ (x : SoundLine). lineFrame samples' x i) sound-new
+          ∙ ap₂ (λ (n f : ℕ). sampleFrame (recording samples' f) (n + i)) first' from'
           ∙ frame-same samples samples' fit fit' (getD (rowsAt ts sounds) k []) row' (ap natural (sym (field-new 2 (differ tt))) ∙ count-same) played-same i
           (subst (λ (x : SoundLine). i < x .count) old l)
-          ∙ ap (λ (n : ℕ). sampleFrame samples (n + i)) (sym first)
+          ∙ sym (ap (λ (x : SoundLine). lineFrame samples x i) old)
 
 -- ---- the relation
 
@@ -130,7 +130,7 @@ unfolding leftTables
 seven ts chosen = lit< tt
 
 -- What is left of one scene, with the samples of another whose tables and frames left are the same. Nothing else is asked of the other.
-pub left-of : (ts ts' : Tables) (samples samples' : List Float) (output : ℕ) (chosen chosen' : Choice) → TablesPass ts samples output → AreF32 samples → AreF32 samples'
+pub left-of : (ts ts' : Tables) (samples samples' : Recordings) (output : ℕ) (chosen chosen' : Choice) → TablesPass ts samples output → AreSamples samples → AreSamples samples'
     → sameTables (leftTables ts chosen) (leftTables ts' chosen') ≡ true
     → same (same sameBits) (framesLeft ts chosen samples) (framesLeft ts' chosen' samples') ≡ true
     → silentChoice ts chosen ≡ true
@@ -167,7 +167,7 @@ left-of ts ts' samples samples' output chosen chosen' passed fit fit' tables fra
       sound-frames =
           subst
           (λ (kept : ℕ → Bool). (k : ℕ) → k < linesAt ts sounds → T (kept k) → (i : ℕ) → i < soundLine s k .count
-          → sampleFrame samples' (soundLine e (rank kept k) .first + i) ≡ sampleFrame samples (soundLine s k .first + i))
+          → lineFrame samples' (soundLine e (rank kept k)) i ≡ lineFrame samples (soundLine s k) i)
           sounds-now (λ k h t. sound-frames ts ts' chosen chosen' eq k h t samples samples' fit fit' frames);
       order-count =
           left-count (keptOrders ts chosen) (λ i row. renumberedOrder ts chosen row) (rowsAt ts orders) (eq .orders)
@@ -182,15 +182,15 @@ left-of ts ts' samples samples' output chosen chosen' passed fit fit' tables fra
     }
 
 -- a scene, and what is left of itself
-pub left-of-self : (ts : Tables) (samples : List Float) (output : ℕ) (chosen : Choice) → TablesPass ts samples output → AreF32 samples → silentChoice ts chosen ≡ true
+pub left-of-self : (ts : Tables) (samples : Recordings) (output : ℕ) (chosen : Choice) → TablesPass ts samples output → AreSamples samples → silentChoice ts chosen ≡ true
     → SceneLeft (keptTracks ts chosen) chosen (quiet ts chosen) (sceneOf ts) samples (sceneOf (leftTables ts chosen)) samples
 left-of-self ts samples output chosen passed fit silent =
     left-of ts ts samples samples output chosen chosen passed fit fit (tables-self (leftTables ts chosen)) (frames-self ts chosen samples) silent
 
 -- ---- two scenes that are alike have one scene left
 
-module _ (ts₁ : Tables) (samples₁ : List Float) (chosen₁ : Choice) (ts₂ : Tables) (samples₂ : List Float) (chosen₂ : Choice)
-    (h : alike ts₁ samples₁ chosen₁ ts₂ samples₂ chosen₂ ≡ true) (fit₂ : AreF32 samples₂) where
+module _ (ts₁ : Tables) (samples₁ : Recordings) (chosen₁ : Choice) (ts₂ : Tables) (samples₂ : Recordings) (chosen₂ : Choice)
+    (h : alike ts₁ samples₁ chosen₁ ts₂ samples₂ chosen₂ ≡ true) (fit₂ : AreSamples samples₂) where
   tests : (sameTables (leftTables ts₁ chosen₁) (leftTables ts₂ chosen₂) ≡ true)
       × (same (same sameBits) (framesLeft ts₁ chosen₁ samples₁) (framesLeft ts₂ chosen₂ samples₂) ≡ true)
       × (silentChoice ts₁ chosen₁ ≡ true)
@@ -203,7 +203,7 @@ module _ (ts₁ : Tables) (samples₁ : List Float) (chosen₁ : Choice) (ts₂ 
       let rest = and-right frames _ (and-right chosen _ (and-right tables _ h)) in
       (and-left tables _ h, and-left frames _ (and-right chosen _ (and-right tables _ h)), and-left (silentChoice ts₁ chosen₁) _ rest, and-right (silentChoice ts₁ chosen₁) _ rest)
 
-  pub first-left : (output : ℕ) → TablesPass ts₁ samples₁ output → AreF32 samples₁
+  pub first-left : (output : ℕ) → TablesPass ts₁ samples₁ output → AreSamples samples₁
       → SceneLeft (keptTracks ts₁ chosen₁) chosen₁ (quiet ts₁ chosen₁) (sceneOf ts₁) samples₁ (sceneOf (leftTables ts₂ chosen₂)) samples₂
   first-left output passed fit = left-of ts₁ ts₂ samples₁ samples₂ output chosen₁ chosen₂ passed fit fit₂ (tests .0) (tests .1) (tests .2)
 

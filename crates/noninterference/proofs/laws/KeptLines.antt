@@ -5,7 +5,7 @@ use mathlib.Core.List.{List, []}
 use Prim.Native.Nat.{ℕ, suc, _<_}
 use lib.Dec.{lit<}
 use lib.ListN.{getD}
-use lib.Ieee.{Float}
+use Rattle.recordings.specs.Recordings.{Recordings}
 use Rattle.scene_tables.specs.Tables.{natural, tracks, routes, sounds, orders, trackColumn, routeColumn, soundColumn, orderColumn}
 use Rattle.scene.specs.declared.scene.OrderLine.{OrderLine}
 use Rattle.scene_questions.specs.Questions.{Tables, rowsAt, linesAt, cell, parentOf}
@@ -39,7 +39,7 @@ module _ (ts : Tables) (chosen : Choice) where
   routes-kept =
       fun-ext (λ r. names-kept (removedTrack ts chosen) (natural (cell (rowsAt ts routes) r (routeColumn .track))) ∙ ap (keptLine (keptTracks ts chosen)) (sym (route-track-at ts r)))
 
-  module _ (samples : List Float) (output : ℕ) (passed : TablesPass ts samples output) where
+  module _ (samples : Recordings) (output : ℕ) (passed : TablesPass ts samples output) where
     pub track-kept : (t : ℕ) → keptTracks ts chosen t ≡ openLine (keptTracks ts chosen) chosen (trackLine (sceneOf ts) t .parent)
     unfolding removedTrack
     track-kept t =

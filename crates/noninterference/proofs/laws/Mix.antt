@@ -1,10 +1,9 @@
 -- The mix of a chunk does not depend on what lies inside silent tracks. Assumes nothing.
 use mathlib.Core.Path.{_≡_, sym, ap, ap₂, _∙_}
 use mathlib.Core.Bool.{Bool}
-use mathlib.Core.List.{List}
 use Prim.Native.Nat.{ℕ, suc, _<_}
 use lib.Dec.{lit≤}
-use lib.Ieee.{Float}
+use Rattle.recordings.specs.Recordings.{Recordings}
 use Rattle.limits.specs.Limits.{trackDepth}
 use Rattle.laws.specs.Loop.{downto}
 use Rattle.laws.proofs.laws.Loop.{downto-cong}
@@ -27,10 +26,10 @@ use Rattle.noninterference.proofs.laws.Tracks.{below-sum, track-alike}
 use Rattle.noninterference.proofs.laws.Sends.{sends-same}
 
 -- a send track's part of the mix
-sent : Chunk → List Float → ℕ → ℕ → Frame → Frame
+sent : Chunk → Recordings → ℕ → ℕ → Frame → Frame
 sent c samples i s x = added x (sendFrame (sendRow c s) (c .frames) i (sendInput c samples (suc s) i))
 
-module _ {keep chosen quiet : ℕ → Bool} {c : Chunk} {samples : List Float} {c' : Chunk} {samples' : List Float} (w : Without keep chosen quiet c samples c' samples') (i : ℕ) (inside : i < c .frames) where
+module _ {keep chosen quiet : ℕ → Bool} {c : Chunk} {samples : Recordings} {c' : Chunk} {samples' : Recordings} (w : Without keep chosen quiet c samples c' samples') (i : ℕ) (inside : i < c .frames) where
   pub tracks-same : tracksFrame c samples i ≡ tracksFrame c' samples' i
   unfolding tracksFrame newLine
   tracks-same = below-sum w i inside trackDepth (track-alike w i inside trackDepth (lit≤ tt)) 0 (open-zero keep chosen)

@@ -7,6 +7,7 @@ use native.Mathlib.Omega.{arith}
 use lib.Dec.{T, eqb, ltb, eqb·suc-zero}
 use lib.ListN.{getD}
 use lib.Ieee.{Float}
+use Rattle.recordings.specs.Recordings.{Recordings}
 use Rattle.limits.specs.Limits.{routeLines, soundLines, trackPlaces}
 use Rattle.laws.proofs.laws.Choice.{cond-false}
 use Rattle.laws.specs.Loop.{upto, changed}
@@ -61,7 +62,7 @@ moved s dt clocks m =
       played = m .played;
     }
 
-module _ {keep chosen quiet : ℕ → Bool} {s : Scene} {samples : List Float} {e : Scene} {samples' : List Float} (ok : SceneOk s) (w : SceneLeft keep chosen quiet s samples e samples') where
+module _ {keep chosen quiet : ℕ → Bool} {s : Scene} {samples : Recordings} {e : Scene} {samples' : Recordings} (ok : SceneOk s) (w : SceneLeft keep chosen quiet s samples e samples') where
   abbrev TracksLeft : List Track → List Track → Type 0
   TracksLeft l l' = ArrayLeft Track keep (s .«track_count») trackPlaces absentTrack l l'
 

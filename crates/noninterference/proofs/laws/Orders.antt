@@ -5,7 +5,7 @@ use mathlib.Core.List.{List}
 use Prim.Native.Nat.{ℕ, _-_, _<_}
 use lib.Dec.{T}
 use lib.ListN.{set}
-use lib.Ieee.{Float}
+use Rattle.recordings.specs.Recordings.{Recordings}
 use Rattle.limits.specs.Limits.{routeLines, trackPlaces}
 use Rattle.laws.specs.Loop.{upto}
 use Rattle.laws.specs.Kept.{rank}
@@ -161,7 +161,7 @@ picked-or-not : {X Y : Type 0} (R : X → Y → Type 0) (b : Bool) {u x : X} {y 
 picked-or-not R true p q = p
 picked-or-not R false p q = q
 
-module _ {keep chosen quiet : ℕ → Bool} {s : Scene} {samples : List Float} {e : Scene} {samples' : List Float} (ok : SceneOk s) (w : SceneLeft keep chosen quiet s samples e samples') where
+module _ {keep chosen quiet : ℕ → Bool} {s : Scene} {samples : Recordings} {e : Scene} {samples' : Recordings} (ok : SceneOk s) (w : SceneLeft keep chosen quiet s samples e samples') where
   abbrev Left : Mixer → Mixer → Type 0
   Left m m' = MixerLeft keep chosen s m m'
 

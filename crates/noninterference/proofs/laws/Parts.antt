@@ -1,10 +1,9 @@
 -- A track's frame in two parts: the sum of what is below it and of its sounds, and what its volume and its state make of the sum. Assumes nothing.
 use mathlib.Core.Path.{_≡_, ap}
 use mathlib.Core.Bool.{cond}
-use mathlib.Core.List.{List}
 use Prim.Native.Nat.{ℕ, suc, _-_}
 use native.Mathlib.Numerals.{sub-one}
-use lib.Ieee.{Float}
+use Rattle.recordings.specs.Recordings.{Recordings}
 use Rattle.frame.specs.declared.frame.Frame.{Frame}
 use Rattle.chunk.specs.declared.chunk.Chunk.{Chunk}
 use Rattle.chunk.specs.declared.chunk.ChunkTrack.{ChunkTrack}
@@ -16,7 +15,7 @@ use Rattle.track.proofs.laws.Running.{picked-if}
 unfoldable pub trackWith : ChunkTrack → ℕ → ℕ → Frame → Frame
 trackWith track n i sum = cond (track .advancing) (scaled sum (trackAmplitude track (amountAt i n))) zeroFrame
 
-unfoldable pub sendsWith : ℕ → Chunk → List Float → ℕ → ℕ → ℕ → ChunkTrack → Frame → Frame
+unfoldable pub sendsWith : ℕ → Chunk → Recordings → ℕ → ℕ → ℕ → ChunkTrack → Frame → Frame
 sendsWith d c samples line s i track a =
     cond (track .advancing) (withRoutes c line s (trackFrame (suc d) c samples line i) (overSubTracks c line (λ below x. withTrackSends d c samples below s i x) a)) a
 
@@ -24,11 +23,11 @@ sendsWith d c samples line s i track a =
 line-of : (j : ℕ) → suc j - 1 ≡ j
 line-of j = sub-one (suc j)
 
-pub track-parts : (d : ℕ) (c : Chunk) (samples : List Float) (j i : ℕ) → trackFrame (suc d) c samples (suc j) i ≡ trackWith (trackRow c j) (c .frames) i (trackSum d c samples (suc j) i)
+pub track-parts : (d : ℕ) (c : Chunk) (samples : Recordings) (j i : ℕ) → trackFrame (suc d) c samples (suc j) i ≡ trackWith (trackRow c j) (c .frames) i (trackSum d c samples (suc j) i)
 unfolding trackFrame trackWith
 track-parts d c samples j i = ap (λ (k : ℕ). trackWith (trackRow c k) (c .frames) i (trackSum d c samples (suc j) i)) (line-of j)
 
-pub send-parts : (d : ℕ) (c : Chunk) (samples : List Float) (j s i : ℕ) (a : Frame) → withTrackSends (suc d) c samples (suc j) s i a ≡ sendsWith d c samples (suc j) s i (trackRow c j) a
+pub send-parts : (d : ℕ) (c : Chunk) (samples : Recordings) (j s i : ℕ) (a : Frame) → withTrackSends (suc d) c samples (suc j) s i a ≡ sendsWith d c samples (suc j) s i (trackRow c j) a
 unfolding withTrackSends sendsWith
 send-parts d c samples j s i a = ap (λ (k : ℕ). sendsWith d c samples (suc j) s i (trackRow c k) a) (line-of j)
 
@@ -37,7 +36,7 @@ pub track-holds : (P : Frame → Type 0) (track : ChunkTrack) (n i : ℕ) (sum :
 unfolding trackWith
 track-holds P track n i sum p q = picked-if P (track .advancing) (scaled sum (trackAmplitude track (amountAt i n))) zeroFrame (λ t. p) q
 
-pub sends-hold : (P : Frame → Type 0) (d : ℕ) (c : Chunk) (samples : List Float) (line s i : ℕ) (track : ChunkTrack) (a : Frame)
+pub sends-hold : (P : Frame → Type 0) (d : ℕ) (c : Chunk) (samples : Recordings) (line s i : ℕ) (track : ChunkTrack) (a : Frame)
     → P (withRoutes c line s (trackFrame (suc d) c samples line i) (overSubTracks c line (λ below x. withTrackSends d c samples below s i x) a)) → P a → P (sendsWith d c samples line s i track a)
 unfolding sendsWith
 sends-hold P d c samples line s i track a p q =

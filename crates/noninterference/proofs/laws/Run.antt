@@ -2,12 +2,11 @@
 use mathlib.Core.Path.{_≡_, sym, ap, subst}
 use mathlib.Core.Logic.{_⊎_, inl, inr}
 use mathlib.Core.Bool.{Bool, false}
-use mathlib.Core.List.{List}
 use Prim.Native.Nat.{ℕ, zero, suc, _≤_, _<_}
 use native.Mathlib.Nat.{le-trans, lt-of-le-of-lt, lt-of-lt-of-le}
 use lib.Dec.{T, lit<, lit≤}
 use lib.ListN.{replicate, length-replicate}
-use lib.Ieee.{Float}
+use Rattle.recordings.specs.Recordings.{Recordings}
 use Rattle.renderer.proofs.laws.Lengths.{frames-most}
 use Rattle.limits.specs.Limits.{chunkFramesMost, trackPlaces}
 use Rattle.laws.specs.Loop.{upto}
@@ -61,7 +60,7 @@ module _ {s : Scene} (ok : SceneOk s) (k : ℕ) where
   step-unsigned : T (unsigned (chunkTime (s .head .rate) (chunkFrames (s .head) k)))
   step-unsigned = chunk-unsigned (s .head .rate) (chunkFrames (s .head) k) (le-trans (lit≤ tt) (ok .rate .0)) (lt-of-le-of-lt (ok .rate .1) (lit< tt)) frames-few
 
-module _ {keep chosen quiet : ℕ → Bool} {s : Scene} {samples : List Float} {e : Scene} {samples' : List Float} (ok : SceneOk s) (w : SceneLeft keep chosen quiet s samples e samples') where
+module _ {keep chosen quiet : ℕ → Bool} {s : Scene} {samples : Recordings} {e : Scene} {samples' : Recordings} (ok : SceneOk s) (w : SceneLeft keep chosen quiet s samples e samples') where
   abbrev Run : Mixer → Mixer → Type 0
   Run m m' = RunLeft keep chosen quiet s m m'
 

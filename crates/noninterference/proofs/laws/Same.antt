@@ -10,6 +10,7 @@ use lib.ListN.{length, getD, set}
 use lib.Seq.{getD-set-same, getD-set-other}
 use lib.Ieee.{Float, binary32, fits, toBits, ofBits}
 use lib.Ieee.Bits.{ofBits-toBits}
+use Rattle.recordings.specs.Recordings.{Recordings}
 use Rattle.laws.proofs.laws.Choice.{and-left, and-right, and-same}
 use Rattle.scene_tables.specs.Tables.{head, clocks, tracks, sends, routes, sounds, orders}
 use Rattle.scene_questions.specs.Questions.{Tables, rowsAt}
@@ -109,5 +110,5 @@ pub bits-eq : (x y : Float) → T (fits binary32 x) → T (fits binary32 y) → 
 unfolding sameBits
 bits-eq x y p q e = sym (ofBits-toBits binary32 x p) ∙ ap (ofBits binary32) (eqb-true (toBits binary32 x) (toBits binary32 y) e) ∙ ofBits-toBits binary32 y q
 
-pub frames-self : (ts : Tables) (chosen : Choice) (samples : List Float) → same (same sameBits) (framesLeft ts chosen samples) (framesLeft ts chosen samples) ≡ true
+pub frames-self : (ts : Tables) (chosen : Choice) (samples : Recordings) → same (same sameBits) (framesLeft ts chosen samples) (framesLeft ts chosen samples) ≡ true
 frames-self ts chosen samples = same-refl (same sameBits) (same-refl sameBits bits-refl) (framesLeft ts chosen samples)

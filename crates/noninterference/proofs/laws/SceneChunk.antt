@@ -8,8 +8,8 @@ use native.Mathlib.Nat.{lt-of-le-of-lt, lt-of-lt-of-le}
 use native.Mathlib.Omega.{arith}
 use lib.Dec.{T}
 use lib.ListN.{getD}
-use lib.Ieee.{Float}
 use lib.Ieee.Scale.{finite}
+use Rattle.recordings.specs.Recordings.{Recordings}
 use Rattle.limits.specs.Limits.{chunkFramesMost, routeLines, soundLines, trackPlaces}
 use Rattle.laws.specs.Kept.{rank}
 use Rattle.laws.proofs.laws.Kept.{rank-lt, rank-le, rank-cong}
@@ -40,7 +40,7 @@ use Rattle.noninterference.proofs.laws.Run.{ChunkLeft}
 use Rattle.noninterference.proofs.laws.ChunkLines.{track-line, route-line, sound-line, plays-same, heard-within}
 use Rattle.chunk.specs.Chunk as chunk
 
-module _ {keep chosen quiet : ℕ → Bool} {s : Scene} {samples : List Float} {e : Scene} {samples' : List Float} (ok : SceneOk s) (w : SceneLeft keep chosen quiet s samples e samples')
+module _ {keep chosen quiet : ℕ → Bool} {s : Scene} {samples : Recordings} {e : Scene} {samples' : Recordings} (ok : SceneOk s) (w : SceneLeft keep chosen quiet s samples e samples')
     (n : ℕ) (few : n ≤ chunkFramesMost) {m m' : Mixer} (r : ChunkLeft keep chosen quiet s m m') where
   abbrev c : Chunk
   c = chunkOf s n m

@@ -3,12 +3,13 @@
 use mathlib.Core.Path.{_≡_, refl, ap}
 use mathlib.Core.Logic.{_⊎_, inl, inr}
 use mathlib.Core.Bool.{Bool, true, false, not}
-use mathlib.Core.List.{List, [], _∷_}
-use Prim.Native.Nat.{ℕ, zero, suc, _+_, _<_}
+use mathlib.Core.List.{[], _∷_}
+use Prim.Native.Nat.{ℕ, zero, suc, _<_}
 use native.Mathlib.Omega.{arith}
 use lib.Dec.{T, T-not, eqb, lit<}
 use lib.Ieee.{Float}
 use lib.Ieee.Fits.{eq→eqb}
+use Rattle.recordings.specs.Recordings.{Recordings, recordings, fromHouse, fromVisitor, recording}
 use Rattle.noninterference.proofs.laws.Example.{two, only}
 use Rattle.laws.specs.Kept.{rank}
 use Rattle.laws.specs.Float.{posZero, one}
@@ -27,7 +28,7 @@ use Rattle.order_lines.specs.Orders.{kindNumber}
 use Rattle.frame.specs.Frame.{sampleFrame}
 use Rattle.noninterference.specs.Removed.{newLine}
 use Rattle.noninterference.proofs.laws.Lines.{keptLine, openLine}
-use Rattle.noninterference.proofs.laws.SceneLeft.{keptRouteLine, keptSoundLine, keptIndex, keptOrder, newIndex, newTrackLine, newRouteLine, newOrderLine, MutedTrack, HeldTrack, SceneLeft}
+use Rattle.noninterference.proofs.laws.SceneLeft.{keptRouteLine, keptSoundLine, keptIndex, keptOrder, newIndex, newTrackLine, newRouteLine, newOrderLine, lineFrame, MutedTrack, HeldTrack, SceneLeft}
 
 -- tracks 0, 2 and 4 are kept, tracks 0 and 2 are chosen, and track 1 is quiet
 abbrev kept : ℕ → Bool
@@ -60,8 +61,8 @@ order kind index target = record { block = 0; kind = kind; index = index; target
 abbrev head : Head
 head = record { rate = 8192; channels = 2; buffer = 128; block = 2; blocks = 1; volume = record { 0 = posZero } }
 
-abbrev samples : List Float
-samples = posZero ∷ posZero ∷ one ∷ one ∷ []
+abbrev samples : Recordings
+samples = recordings (posZero ∷ posZero ∷ one ∷ one ∷ []) []
 
 abbrev whole : Scene
 whole =
@@ -76,7 +77,7 @@ whole =
       «route_count» = 2;
       routes = routeFrom 4 ∷ routeFrom 5 ∷ [];
       «sound_count» = 2;
-      sounds = record { track = 2; first = 0; count = 1 } ∷ record { track = 5; first = 1; count = 1 } ∷ [];
+      sounds = record { track = 2; first = 0; count = 1; from = fromHouse } ∷ record { track = 5; first = 1; count = 1; from = fromHouse } ∷ [];
       «order_count» = 5;
       orders = order Resume 4 posZero ∷ order Pause 3 posZero ∷ order RouteVolume 1 one ∷ order RouteVolume 2 one ∷ order TrackVolume 5 one ∷ [];
     }
@@ -94,7 +95,7 @@ rest =
       «route_count» = 1;
       routes = routeFrom 3 ∷ [];
       «sound_count» = 1;
-      sounds = record { track = 3; first = 0; count = 1 } ∷ [];
+      sounds = record { track = 3; first = 0; count = 1; from = fromVisitor } ∷ [];
       «order_count» = 3;
       orders = order Pause 2 posZero ∷ order RouteVolume 1 one ∷ order TrackVolume 3 one ∷ [];
     }
@@ -135,8 +136,11 @@ held-third =
           (λ k e. absurd (omega arith)) (λ k e. absurd (omega arith));
     }
 
-pub example : SceneLeft kept opened still whole samples rest (one ∷ one ∷ [])
-unfolding rank newLine keptLine openLine keptIndex newIndex sampleFrame
+abbrev visiting : Recordings
+visiting = recordings [] (one ∷ one ∷ [])
+
+pub example : SceneLeft kept opened still whole samples rest visiting
+unfolding recording rank newLine keptLine openLine keptIndex newIndex sampleFrame
 example =
     record {
       head = refl;
@@ -153,8 +157,8 @@ example =
       sound-counts = two (λ k. T (keptSoundLine kept opened whole k) → soundLine rest (rank (keptSoundLine kept opened whole) k) .count ≡ soundLine whole k .count) (λ k. absurd k) (λ k. refl);
       sound-frames =
           two (λ k. T (keptSoundLine kept opened whole k) → (i : ℕ) → i < soundLine whole k .count
-          → sampleFrame (one ∷ one ∷ []) (soundLine rest (rank (keptSoundLine kept opened whole) k) .first + i) ≡ sampleFrame samples (soundLine whole k .first + i))
-          (λ k. absurd k) (λ k. only (λ i. sampleFrame (one ∷ one ∷ []) (0 + i) ≡ sampleFrame samples (1 + i)) refl);
+          → lineFrame visiting (soundLine rest (rank (keptSoundLine kept opened whole) k)) i ≡ lineFrame samples (soundLine whole k) i)
+          (λ k. absurd k) (λ k. only (λ i. lineFrame visiting (soundLine rest 0) i ≡ lineFrame samples (soundLine whole 1) i) refl);
       order-count = refl;
       orders = five (λ i. T (keptOrder kept whole i) → orderLine rest (rank (keptOrder kept whole) i) ≡ newOrderLine kept whole (orderLine whole i)) (λ k. absurd k) (λ k. refl) (λ k. absurd k) (λ k. refl) (λ k. refl);
       tree = five (λ t. kept t ≡ openLine kept opened (trackLine whole t .parent)) refl refl refl refl refl;

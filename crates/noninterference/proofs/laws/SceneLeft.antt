@@ -5,20 +5,21 @@
 use mathlib.Core.Path.{_≡_}
 use mathlib.Core.Logic.{_⊎_}
 use mathlib.Core.Bool.{Bool, true}
-use mathlib.Core.List.{List}
 use Prim.Native.Nat.{ℕ, suc, _+_, _<_}
 use lib.Dec.{T}
-use lib.Ieee.{Float}
+use Rattle.recordings.specs.Recordings.{Recordings, recording}
 use Rattle.laws.specs.Kept.{rank}
 use Rattle.laws.proofs.laws.DecibelRange.{SilentRange}
 use Rattle.tween.specs.declared.start_time.StartTime.the-variants.{Immediate}
 use Rattle.scene.specs.declared.scene.Scene.{Scene}
 use Rattle.scene.specs.declared.scene.TrackLine.{TrackLine}
 use Rattle.scene.specs.declared.scene.RouteLine.{RouteLine}
+use Rattle.scene.specs.declared.scene.SoundLine.{SoundLine}
 use Rattle.scene.specs.declared.scene.OrderLine.{OrderLine}
 use Rattle.scene.specs.declared.scene.OrderKind.{OrderKind}
 use Rattle.scene.specs.declared.scene.OrderKind.the-variants.{MainVolume, TrackVolume, SendVolume, RouteVolume, Pause, Resume}
 use Rattle.accepted.specs.Lines.{clockLine, trackLine, sendLine, routeLine, soundLine, orderLine}
+use Rattle.frame.specs.declared.frame.Frame.{Frame}
 use Rattle.frame.specs.Frame.{sampleFrame}
 use Rattle.noninterference.specs.Removed.{newLine}
 use Rattle.noninterference.proofs.laws.Lines.{keptLine, openLine}
@@ -93,7 +94,11 @@ pub record HeldTrack (s : Scene) (t : ℕ) : Type 0 where
 
 -- ---- the relation
 
-pub record SceneLeft (keep chosen quiet : ℕ → Bool) (s : Scene) (samples : List Float) (e : Scene) (samples' : List Float) : Type 0 where
+-- frame i of what a sound plays
+abbrev pub lineFrame : Recordings → SoundLine → ℕ → Frame
+lineFrame samples line i = sampleFrame (recording samples (line .from)) (line .first + i)
+
+pub record SceneLeft (keep chosen quiet : ℕ → Bool) (s : Scene) (samples : Recordings) (e : Scene) (samples' : Recordings) : Type 0 where
   -- e is what is left of s
   pub head : e .head ≡ s .head
   pub clock-count : e .«clock_count» ≡ s .«clock_count»
@@ -110,7 +115,7 @@ pub record SceneLeft (keep chosen quiet : ℕ → Bool) (s : Scene) (samples : L
   pub sound-counts : (k : ℕ) → k < s .«sound_count» → T (keptSoundLine keep chosen s k) → soundLine e (rank (keptSoundLine keep chosen s) k) .count ≡ soundLine s k .count
   -- every frame that a sound plays
   pub sound-frames : (k : ℕ) → k < s .«sound_count» → T (keptSoundLine keep chosen s k) → (i : ℕ) → i < soundLine s k .count
-      → sampleFrame samples' (soundLine e (rank (keptSoundLine keep chosen s) k) .first + i) ≡ sampleFrame samples (soundLine s k .first + i)
+      → lineFrame samples' (soundLine e (rank (keptSoundLine keep chosen s) k)) i ≡ lineFrame samples (soundLine s k) i
   pub order-count : e .«order_count» ≡ rank (keptOrder keep s) (s .«order_count»)
   pub orders : (i : ℕ) → i < s .«order_count» → T (keptOrder keep s i) → orderLine e (rank (keptOrder keep s) i) ≡ newOrderLine keep s (orderLine s i)
   -- a track is kept where it stands right under the mixer, or under a track that is kept and not chosen

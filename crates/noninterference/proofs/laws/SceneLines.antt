@@ -2,13 +2,13 @@
 use mathlib.Core.Path.{_≡_, refl, sym, ap, _∙_}
 use mathlib.Core.Bool.{true, not}
 use mathlib.Core.Logic.{_⊎_, inl, inr}
-use mathlib.Core.List.{List, []}
+use mathlib.Core.List.{[]}
 use Prim.Native.Nat.{ℕ, suc, _≤_, _<_, zero-le}
 use native.Mathlib.Omega.{arith}
 use borrow.Author.Tests.{eq-eqb}
 use lib.Dec.{T, ltb, ltb→lt, nltb→le, lit<}
 use lib.ListN.{getD, List·getD-eq-default}
-use lib.Ieee.{Float}
+use Rattle.recordings.specs.Recordings.{Recordings}
 use Rattle.limits.specs.Limits.{trackLines, routeLines, soundLines, orderLines}
 use Rattle.laws.proofs.laws.Choice.{and-same}
 use Rattle.laws.proofs.laws.Kept.{kept-or-removed}
@@ -52,7 +52,7 @@ module _ (ts : Tables) where
   unfolding sceneOf soundOf
   sound-track-at = place-number soundLines soundOf absentSoundLine (λ x. x .track) refl (rowsAt ts sounds)
 
-module _ (ts : Tables) (samples : List Float) (output : ℕ) (passed : TablesPass ts samples output) where
+module _ (ts : Tables) (samples : Recordings) (output : ℕ) (passed : TablesPass ts samples output) where
   pub passed-early : Early ts
   unfolding parentOf
   passed-early t = go (kept-or-removed (ltb t (linesAt ts tracks)))

@@ -3,12 +3,11 @@
 use mathlib.Core.Path.{_≡_, refl, sym, ap, _∙_, subst}
 use mathlib.Core.Logic.{inl, inr}
 use mathlib.Core.Bool.{Bool, true, false, cond, not, _&&_, true≢false}
-use mathlib.Core.List.{List}
 use Prim.Native.Nat.{ℕ, zero, suc, _≤_, _<_}
 use native.Mathlib.Omega.{arith}
 use lib.Dec.{T, eqb, eqb→eq}
-use lib.Ieee.{Float}
 use lib.Ieee.Fits.{and-l}
+use Rattle.recordings.specs.Recordings.{Recordings}
 use Rattle.laws.specs.Loop.{upto}
 use Rattle.laws.proofs.laws.Loop.{upto-holds}
 use Rattle.laws.specs.Kept.{rank}
@@ -45,7 +44,7 @@ routes-still c line s frame a h =
     let d = eqb (routeRow c r .send) s in
     picked-if (λ (y : Frame). y ≡ a) (b && d) (added x (scaled frame (routeRow c r .amplitude))) x (λ t. absurd (h r l (eqb→eq (routeRow c r .track) line (and-l b d t)))) e)
 
-module _ {keep chosen quiet : ℕ → Bool} {c : Chunk} {samples : List Float} {c' : Chunk} {samples' : List Float} (w : Without keep chosen quiet c samples c' samples') where
+module _ {keep chosen quiet : ℕ → Bool} {c : Chunk} {samples : Recordings} {c' : Chunk} {samples' : Recordings} (w : Without keep chosen quiet c samples c' samples') where
   turn-same : (line s : ℕ) {frame frame' : Frame} → T (keptLine keep line) → Alike frame frame' → (r : ℕ) → r < c .«route_count» → T (keptRoute keep c r) → (x y : Frame) → Same x y
       → Same (turn line s frame (routeRow c r) x) (turn (newLine keep line) s frame' (routeRow c' (rank (keptRoute keep c) r)) y)
   unfolding turn
@@ -73,7 +72,7 @@ module _ {keep chosen quiet : ℕ → Bool} {c : Chunk} {samples : List Float} {
 
 -- ---- tracks
 
-module _ {keep chosen quiet : ℕ → Bool} {c : Chunk} {samples : List Float} {c' : Chunk} {samples' : List Float} (w : Without keep chosen quiet c samples c' samples') (s i : ℕ) (inside : i < c .frames) where
+module _ {keep chosen quiet : ℕ → Bool} {c : Chunk} {samples : Recordings} {c' : Chunk} {samples' : Recordings} (w : Without keep chosen quiet c samples c' samples') (s i : ℕ) (inside : i < c .frames) where
   -- a quiet track adds nothing
   quiet-still : (d j : ℕ) → j < c .«track_count» → T (quiet j) → (a : Frame) → withTrackSends d c samples (suc j) s i a ≡ a
   quiet-still zero j l q a = unfold withTrackSends in refl

@@ -4,6 +4,7 @@ use mathlib.Core.Bool.{Bool}
 use mathlib.Core.List.{List}
 use Prim.Native.Nat.{ℕ, _<_}
 use lib.Ieee.{Float}
+use Rattle.recordings.specs.Recordings.{Recordings}
 use Rattle.laws.specs.Pieces.{pieces}
 use Rattle.laws.proofs.laws.Pieces.{pieces-cong}
 use Rattle.parameter.specs.Range.{ParameterIn, valueRange}
@@ -27,7 +28,7 @@ use Rattle.noninterference.proofs.laws.SceneChunk.{without}
 samplesBy : Head → ℕ → (ℕ → ℕ → Frame) → List Float
 samplesBy h k f = pieces (λ i. channelsOf (h .channels) (clamped (f (chunkFrames h k) i))) (chunkFrames h k)
 
-module _ {keep chosen quiet : ℕ → Bool} {s : Scene} {samples : List Float} {e : Scene} {samples' : List Float} (ok : SceneOk s) (heard : SamplesOk s samples)
+module _ {keep chosen quiet : ℕ → Bool} {s : Scene} {samples : Recordings} {e : Scene} {samples' : Recordings} (ok : SceneOk s) (heard : SamplesOk s samples)
     (w : SceneLeft keep chosen quiet s samples e samples')
     (range : (b k : ℕ) → b < s .head .blocks → k < chunkCount (s .head) → ChunkOk (chunkOf s (chunkFrames (s .head) k) (mixerIn s b k)) samples)
     (routed : (b k : ℕ) → b < s .head .blocks → k < chunkCount (s .head) → (r : ℕ) → r < s .«route_count» → ParameterIn valueRange (parameterOf (mixerIn s b k .routes) r)) where

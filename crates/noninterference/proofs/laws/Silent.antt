@@ -2,15 +2,15 @@
 use mathlib.Core.Path.{_≡_, refl, sym, ap, _∙_, subst}
 use mathlib.Core.Logic.{_⊎_, inl, inr, ⊎-elim}
 use mathlib.Core.Bool.{Bool, true, false, cond, not, _&&_, _||_, true≢false}
-use mathlib.Core.List.{List}
 use Prim.Native.Nat.{ℕ, zero, suc, _-_, _≤_, _<_}
 use native.Mathlib.Nat.{le-refl, le-trans, le-suc}
 use native.Mathlib.Omega.{arith}
 use borrow.Author.Tests.{leb-true, eqb-true, not-true}
 use lib.Dec.{T, eqb, leb, lit<}
 use lib.IntN.{pos, negsuc}
-use lib.Ieee.{Float, binary32, ofInt, div}
+use lib.Ieee.{binary32, ofInt, div}
 use lib.Ieee.Bits.{is-true}
+use Rattle.recordings.specs.Recordings.{Recordings}
 use Rattle.laws.specs.Loop.{upto}
 use Rattle.laws.proofs.laws.Choice.{cond-true, true-T, and-left, and-right, and-same}
 use Rattle.laws.specs.Kept.{rank}
@@ -121,7 +121,7 @@ holds-tests ts t i e =
       millis = eqb-true (at (orderColumn .millis)) (raised 0) (and-right (eqb (at (orderColumn .when)) (raised 0)) _ c);
     }
 
-stopped : (ts : Tables) (samples : List Float) (output : ℕ) → TablesPass ts samples output → (t i : ℕ) → i < linesAt ts orders
+stopped : (ts : Tables) (samples : Recordings) (output : ℕ) → TablesPass ts samples output → (t i : ℕ) → i < linesAt ts orders
     → (orderLine (sceneOf ts) i .kind ≡ Pause) ⊎ (orderLine (sceneOf ts) i .kind ≡ Resume) → orderLine (sceneOf ts) i .index ≡ suc t → pausesOrResumes ts t i ≡ true
 unfolding pausesOrResumes kindNumber
 stopped ts samples output passed t i h kind index =
@@ -136,7 +136,7 @@ unrouted removed line {t} e u h = true≢false (sym h ∙ not-true (removed t) (
 
 -- ---- the two kinds of silent tracks
 
-module _ (ts : Tables) (samples : List Float) (output : ℕ) (passed : TablesPass ts samples output) (chosen : Choice) where
+module _ (ts : Tables) (samples : Recordings) (output : ℕ) (passed : TablesPass ts samples output) (chosen : Choice) where
   abbrev mutedChoice : Choice
   mutedChoice t = chosen t && muted ts t
 

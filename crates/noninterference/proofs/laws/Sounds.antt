@@ -1,10 +1,9 @@
 -- Sounds: on a line that is kept and not chosen the same are heard, on a chosen line none is left. Assumes nothing.
 use mathlib.Core.Path.{_≡_, refl, sym, ap, ap₂, _∙_}
 use mathlib.Core.Bool.{Bool, cond}
-use mathlib.Core.List.{List}
 use Prim.Native.Nat.{ℕ, suc, _<_}
 use lib.Dec.{T, eqb}
-use lib.Ieee.{Float}
+use Rattle.recordings.specs.Recordings.{Recordings}
 use Rattle.laws.proofs.laws.Choice.{cond-false}
 use Rattle.laws.specs.Loop.{downto}
 use Rattle.laws.specs.Kept.{rank}
@@ -20,10 +19,10 @@ use Rattle.noninterference.proofs.laws.Frames.{turn-kept, turn-removed,
 use Rattle.chunk.specs.Chunk.{soundRow}
 
 -- a sound's turn in the loop of a line
-turn : Chunk → List Float → ℕ → ℕ → ℕ → Frame → Frame
+turn : Chunk → Recordings → ℕ → ℕ → ℕ → Frame → Frame
 turn c samples line i k a = cond (eqb (soundRow c k .track) line) (addedSound samples (soundRow c k) i a) a
 
-module _ {keep chosen quiet : ℕ → Bool} {c : Chunk} {samples : List Float} {c' : Chunk} {samples' : List Float} (w : Without keep chosen quiet c samples c' samples') (i : ℕ) where
+module _ {keep chosen quiet : ℕ → Bool} {c : Chunk} {samples : Recordings} {c' : Chunk} {samples' : Recordings} (w : Without keep chosen quiet c samples c' samples') (i : ℕ) where
   -- the test of a sound that is kept
   test : (line : ℕ) → T (keptLine keep line) → (k : ℕ) → k < c .«sound_count» → T (keptSound keep chosen c k)
       → eqb (soundRow c' (rank (keptSound keep chosen c) k) .track) (newLine keep line) ≡ eqb (soundRow c k .track) line

@@ -4,7 +4,7 @@ use mathlib.Core.Bool.{Bool}
 use mathlib.Core.List.{List}
 use Prim.Native.Nat.{ℕ, zero, suc}
 use lib.ListN.{getD, replicate, length-replicate}
-use lib.Ieee.{Float}
+use Rattle.recordings.specs.Recordings.{Recordings}
 use Rattle.limits.specs.Limits.{clockLines, routeLines, sendLines, soundLines, trackPlaces}
 use Rattle.laws.specs.Loop.{changed}
 use Rattle.laws.proofs.laws.Loop.{changed-cong}
@@ -46,7 +46,7 @@ nothing-played zero i = refl
 nothing-played (suc n) zero = refl
 nothing-played (suc n) (suc i) = nothing-played n i
 
-module _ {keep chosen quiet : ℕ → Bool} {s : Scene} {samples : List Float} {e : Scene} {samples' : List Float} (ok : SceneOk s) (w : SceneLeft keep chosen quiet s samples e samples') where
+module _ {keep chosen quiet : ℕ → Bool} {s : Scene} {samples : Recordings} {e : Scene} {samples' : Recordings} (ok : SceneOk s) (w : SceneLeft keep chosen quiet s samples e samples') where
   clocks-new : clocksNew e ≡ clocksNew s
   unfolding clocksNew clocksWith
   clocks-new =

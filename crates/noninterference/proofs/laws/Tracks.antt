@@ -2,12 +2,12 @@
 use mathlib.Core.Path.{_≡_, refl, sym, ap, _∙_, subst}
 use mathlib.Core.Logic.{inl, inr}
 use mathlib.Core.Bool.{Bool, false}
-use mathlib.Core.List.{List}
 use Prim.Native.Nat.{ℕ, zero, suc, _≤_, _<_}
 use native.Mathlib.Omega.{arith}
 use lib.Dec.{T}
 use lib.Ieee.{Float, binary32}
 use lib.Ieee.Scale.{finite}
+use Rattle.recordings.specs.Recordings.{Recordings}
 use Rattle.laws.proofs.laws.Choice.{cond-false}
 use Rattle.laws.specs.Kept.{rank}
 use Rattle.laws.proofs.laws.Kept.{kept-or-removed}
@@ -46,7 +46,7 @@ muted-frame : (track : ChunkTrack) (n i : ℕ) (sum : Frame) → Zero (trackAmpl
 muted-frame track n i sum z h =
     track-holds (Both Zero) track n i sum (both-scaled Zero (trackAmplitude track (amountAt i n)) (λ x f. mul-zero-right binary32 x f z) h) zeros
 
-module _ {keep chosen quiet : ℕ → Bool} {c : Chunk} {samples : List Float} {c' : Chunk} {samples' : List Float} (w : Without keep chosen quiet c samples c' samples') (i : ℕ) (inside : i < c .frames) where
+module _ {keep chosen quiet : ℕ → Bool} {c : Chunk} {samples : Recordings} {c' : Chunk} {samples' : Recordings} (w : Without keep chosen quiet c samples c' samples') (i : ℕ) (inside : i < c .frames) where
   silent-frame : (p : ℕ) → p < c .«track_count» → T (chosen p) → (sum : Frame) → Both Finite sum → Both Zero (trackWith (trackRow c p) (c .frames) i sum)
   silent-frame p l t sum h =
       elim (w .chosen-silent p l t) [

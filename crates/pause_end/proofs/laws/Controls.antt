@@ -6,7 +6,8 @@ use mathlib.Core.List.{List, [], _∷_, map}
 use Prim.Native.Nat.{ℕ, _+_, _-_, _*_, _/_, _<_}
 use native.Mathlib.Omega.{arith}
 use lib.Dec.{lit<}
-use lib.Ieee.{Float, binary64, round, add, mul, div, le, ofInt}
+use lib.Ieee.{binary64, round, add, mul, div, le, ofInt}
+use Rattle.recordings.specs.Recordings.{Recordings}
 use Rattle.laws.specs.Loop.{upto}
 use Rattle.laws.specs.Float.{posZero}
 use Rattle.rounding.specs.Duration.{secsFromMillis}
@@ -89,7 +90,7 @@ unfolding fadeState reached elapsed fadeChunks secsFromMillis upto round add mul
 short h m rate buffer millis =
     ap (λ (r : ℕ). stateAt r (h .buffer) m) rate ∙ ap (λ (n : ℕ). stateAt 8000 n m) buffer ∙ ap (λ (x : ℕ). stateAt 8000 24 x) millis
 
-pub c-too-early : (file : List ℕ) (samples : List Float) (output : ℕ) → answer file samples output ≡ 0 → (t i : ℕ) → PausedOnce (sceneOf (tablesOf file)) t i
+pub c-too-early : (file : List ℕ) (samples : Recordings) (output : ℕ) → answer file samples output ≡ 0 → (t i : ℕ) → PausedOnce (sceneOf (tablesOf file)) t i
     → sceneOf (tablesOf file) .head .rate ≡ 8000 → sceneOf (tablesOf file) .head .buffer ≡ 24 → orderLine (sceneOf (tablesOf file)) i .millis ≡ 21
     → (b k : ℕ) → ChunkSince (sceneOf (tablesOf file)) i (fadeChunks (sceneOf (tablesOf file) .head) (orderLine (sceneOf (tablesOf file)) i .millis)) b k
     → stateIn (sceneOf (tablesOf file)) t b k ≡ Pausing

@@ -9,6 +9,7 @@ use lib.Dec.{lit≤}
 use lib.Ieee.{Float}
 use lib.Ieee.Bits.{is-true}
 use Rattle.limits.specs.Limits.{trackDepth}
+use Rattle.recordings.specs.Recordings.{Recordings}
 use Rattle.laws.proofs.laws.Choice.{cond-false, true-T}
 use Rattle.clock.specs.ChunkTime.{chunkTime}
 use Rattle.tween.specs.declared.tween.Tween.{Tween}
@@ -46,7 +47,7 @@ use Rattle.pause_end.proofs.laws.Run.{stands}
 -- ---- general facts
 
 -- a track that does not advance gives zeros
-still-frame : (d : ℕ) (c : Chunk) (samples : List Float) (line i : ℕ) → trackRow c (line - 1) .advancing ≡ false → trackFrame d c samples line i ≡ zeroFrame
+still-frame : (d : ℕ) (c : Chunk) (samples : Recordings) (line i : ℕ) → trackRow c (line - 1) .advancing ≡ false → trackFrame d c samples line i ≡ zeroFrame
 unfolding trackFrame
 still-frame zero c samples line i e = refl
 still-frame (suc d) c samples line i e = cond-false (trackRow c (line - 1) .advancing) _ zeroFrame e
@@ -138,7 +139,7 @@ module _ {s : Scene} {t i : ℕ} (ok : SceneOk s) (once : PausedOnce s t i) {n b
   unfolding lastChunk
   paused-last late = paused-since (fadeChunks h millis + 1) (omega arith) (omega (arith, late)) (over-last (omega (arith, late)))
 
-  paused-in : (samples : List Float) → stateIn s t b k ≡ Paused → PausedIn s samples t b k
+  paused-in : (samples : Recordings) → stateIn s t b k ≡ Paused → PausedIn s samples t b k
   unfolding isAdvancing
   paused-in samples paused =
       let still : trackRow (chunkIn s b k) t .advancing ≡ false = advancing-is ∙ ap isAdvancing paused in
@@ -150,25 +151,25 @@ module _ {s : Scene} {t i : ℕ} (ok : SceneOk s) (once : PausedOnce s t i) {n b
 -- ---- the theorems, of accepted scenes
 
 -- from chunk c + 1 on, counted from the order, the track is paused and all its frames are zero
-pub pause-over : (file : List ℕ) (samples : List Float) (output : ℕ) → answer file samples output ≡ 0 → (t i : ℕ) → PausedOnce (sceneOf (tablesOf file)) t i
+pub pause-over : (file : List ℕ) (samples : Recordings) (output : ℕ) → answer file samples output ≡ 0 → (t i : ℕ) → PausedOnce (sceneOf (tablesOf file)) t i
     → (n b k : ℕ) → ChunkSince (sceneOf (tablesOf file)) i n b k → lastChunk (sceneOf (tablesOf file)) i ≤ n → PausedIn (sceneOf (tablesOf file)) samples t b k
 pause-over file samples output e t i once n b k at late =
     let ok = accepted-ok file samples output e in
     paused-in ok once at samples (paused-last ok once at late)
 
 -- in chunk n it is paused where the sum of n chunk lengths has reached the fade's length, and until then it fades
-pub pause-state : (file : List ℕ) (samples : List Float) (output : ℕ) → answer file samples output ≡ 0 → (t i : ℕ) → PausedOnce (sceneOf (tablesOf file)) t i
+pub pause-state : (file : List ℕ) (samples : Recordings) (output : ℕ) → answer file samples output ≡ 0 → (t i : ℕ) → PausedOnce (sceneOf (tablesOf file)) t i
     → (n b k : ℕ) → ChunkSince (sceneOf (tablesOf file)) i n b k → stateIn (sceneOf (tablesOf file)) t b k ≡ fadeState (sceneOf (tablesOf file) .head) (orderLine (sceneOf (tablesOf file)) i .millis) n
 pause-state file samples output e t i once n b k at = state-now (accepted-ok file samples output e) once at
 
 -- and so it advances in every chunk in which the sum has not reached it,
-pub pause-advances : (file : List ℕ) (samples : List Float) (output : ℕ) → answer file samples output ≡ 0 → (t i : ℕ) → PausedOnce (sceneOf (tablesOf file)) t i
+pub pause-advances : (file : List ℕ) (samples : Recordings) (output : ℕ) → answer file samples output ≡ 0 → (t i : ℕ) → PausedOnce (sceneOf (tablesOf file)) t i
     → (n b k : ℕ) → ChunkSince (sceneOf (tablesOf file)) i n b k
     → trackRow (chunkIn (sceneOf (tablesOf file)) b k) t .advancing ≡ not (reached (sceneOf (tablesOf file) .head) (orderLine (sceneOf (tablesOf file)) i .millis) n)
 pause-advances file samples output e t i once n b k at = advancing-now (accepted-ok file samples output e) once at
 
 -- and from the first chunk a in which it has, the track is paused and all its frames are zero
-pub pause-ends : (file : List ℕ) (samples : List Float) (output : ℕ) → answer file samples output ≡ 0 → (t i : ℕ) → PausedOnce (sceneOf (tablesOf file)) t i
+pub pause-ends : (file : List ℕ) (samples : Recordings) (output : ℕ) → answer file samples output ≡ 0 → (t i : ℕ) → PausedOnce (sceneOf (tablesOf file)) t i
     → (a : ℕ) → 1 ≤ a → reached (sceneOf (tablesOf file) .head) (orderLine (sceneOf (tablesOf file)) i .millis) a ≡ true
     → (n b k : ℕ) → ChunkSince (sceneOf (tablesOf file)) i n b k → a ≤ n → PausedIn (sceneOf (tablesOf file)) samples t b k
 unfolding reached elapsed

@@ -9,6 +9,7 @@ use lib.Dec.{ltb, lit≤}
 use lib.ListN.{length, take, drop, length-append}
 use lib.Ieee.{Float}
 use borrow.Author.Tests.{ltb-true, ltb-false}
+use Rattle.recordings.specs.Recordings.{Recordings}
 use Rattle.limits.specs.Limits.{blockFramesMost, channelsMost}
 use Rattle.laws.specs.Pieces.{pieces, begun}
 use Rattle.laws.proofs.laws.Pieces.{pieces-zero, pieces-suc, length-pieces, length-elements, part-put, begun-next}
@@ -119,7 +120,7 @@ framePiece channels mix i = channelsOf channels (clamped (mix i))
 pub length-frames : (channels : ℕ) (mix : ℕ → Frame) (n : ℕ) → length (pieces (framePiece channels mix) n) ≡ n * channels
 length-frames channels mix n = length-pieces (framePiece channels mix) channels n (λ i l. length-channels channels (clamped (mix i)))
 
-module _ (s : Scene) (samples : List Float) where
+module _ (s : Scene) (samples : Recordings) where
   pub length-chunk : (k : ℕ) (m : Mixer) → length (chunkSamples s samples k m) ≡ chunkFrames (s .head) k * s .head .channels
   unfolding chunkSamples
   length-chunk k m =
@@ -128,10 +129,10 @@ module _ (s : Scene) (samples : List Float) where
       (λ i l. length-channels (s .head .channels) (clamped (mixedFrame (chunkOf s n m) samples i)))
 
 -- chunk k of a block
-abbrev pub blockPiece : Scene → List Float → Mixer → ℕ → List Float
+abbrev pub blockPiece : Scene → Recordings → Mixer → ℕ → List Float
 blockPiece s samples m k = chunkSamples s samples k (inChunk s k (chunksDone s k m))
 
-pub block-pieces : (s : Scene) (samples : List Float) (m : Mixer) → blockSamples s samples m ≡ pieces (blockPiece s samples m) (chunkCount (s .head))
+pub block-pieces : (s : Scene) (samples : Recordings) (m : Mixer) → blockSamples s samples m ≡ pieces (blockPiece s samples m) (chunkCount (s .head))
 unfolding blockSamples
 block-pieces s samples m = refl
 
@@ -174,5 +175,5 @@ module _ (h : Head) (some : 1 ≤ h .buffer) (f : ℕ → List Float) (each : (k
       (ap length q ∙ each k ∙ ap (λ (i : ℕ). i * h .channels) (sym is) ∙ sym (add-sub-cancel-left (k * h .buffer * h .channels) (n * h .channels)))
       ∙ begun-next f k out₀ e (sym (length-before k l)) q refl
 
-pub length-block : (s : Scene) (samples : List Float) (m : Mixer) → 1 ≤ s .head .buffer → length (blockSamples s samples m) ≡ s .head .block * s .head .channels
+pub length-block : (s : Scene) (samples : Recordings) (m : Mixer) → 1 ≤ s .head .buffer → length (blockSamples s samples m) ≡ s .head .block * s .head .channels
 length-block s samples m some = ap length (block-pieces s samples m) ∙ length-all (s .head) some (blockPiece s samples m) (λ k. length-chunk s samples k (inChunk s k (chunksDone s k m)))

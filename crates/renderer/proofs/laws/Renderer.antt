@@ -8,6 +8,7 @@ use lib.Dec.{T, le→leb, lit<, lit≤}
 use lib.IntN.{pos}
 use lib.ListN.{length, take, drop}
 use lib.Ieee.{Float, binary64, prec, inFloat}
+use Rattle.recordings.specs.Recordings.{Recordings}
 use Rattle.limits.specs.Limits.{chunkFramesMost, blockFramesMost, channelsMost, blocksMost}
 use Rattle.laws.proofs.laws.Loop.{upto-zero, upto-turn, upto-holds}
 use Rattle.laws.specs.Pieces.{pieces, begun}
@@ -130,11 +131,11 @@ pub frames-of : (s : Scene) (n : ℕ) (m : Mixer) {chunk : Chunk} → chunk ≡ 
 unfolding chunkOf
 frames-of s n m e = ap (λ (x : Chunk). x .frames) e
 
-pub chunk-of-ok : (s : Scene) (samples : List Float) (k c : ℕ) (m : Mixer) {n : ℕ} {chunk : Chunk} → SceneOk s → SamplesOk s samples → MixerOk s c m → n ≡ chunkFrames (s .head) k → chunk ≡ chunkOf s n m → ChunkOk chunk samples
+pub chunk-of-ok : (s : Scene) (samples : Recordings) (k c : ℕ) (m : Mixer) {n : ℕ} {chunk : Chunk} → SceneOk s → SamplesOk s samples → MixerOk s c m → n ≡ chunkFrames (s .head) k → chunk ≡ chunkOf s n m → ChunkOk chunk samples
 chunk-of-ok s samples k c m {n} ok sok h is e = subst (λ (x : Chunk). ChunkOk x samples) (sym e) (chunk-ok s samples c n m ok sok h (few-at s k ok is))
 
 -- what is written of a mixed chunk
-pub mix-written : (channels n : ℕ) (chunk : Chunk) (samples mix₀ : List Float) {mix : List Float} → chunk .frames ≡ n → 2 * n ≤ length mix₀ → mix ≡ withFrames (scratch 0 (chunk .frames)) (mixedSet chunk samples) mix₀ → pieces (framePiece channels (frameAt (scratch 0 n) mix)) n ≡ pieces (λ i. channelsOf channels (clamped (mixedFrame chunk samples i))) n
+pub mix-written : (channels n : ℕ) (chunk : Chunk) (samples : Recordings) (mix₀ : List Float) {mix : List Float} → chunk .frames ≡ n → 2 * n ≤ length mix₀ → mix ≡ withFrames (scratch 0 (chunk .frames)) (mixedSet chunk samples) mix₀ → pieces (framePiece channels (frameAt (scratch 0 n) mix)) n ≡ pieces (λ i. channelsOf channels (clamped (mixedFrame chunk samples i))) n
 unfolding mixedSet
 mix-written channels n chunk samples mix₀ {mix} frames long q =
     pieces-cong (framePiece channels (frameAt (scratch 0 n) mix)) (λ i. channelsOf channels (clamped (mixedFrame chunk samples i))) n
@@ -142,7 +143,7 @@ mix-written channels n chunk samples mix₀ {mix} frames long q =
     (ap (λ (x : List Float). frameAt (scratch 0 n) x i) (q ∙ ap (λ (j : ℕ). withFrames (scratch 0 j) (mixedSet chunk samples) mix₀) frames)
     ∙ first-at (scratch 0 n) (mixedSet chunk samples) n mix₀ i (le-refl n) (omega (arith, long)) l))
 
-module _ (s : Scene) (samples : List Float) (k : ℕ) (m : Mixer) {n : ℕ} {chunk : Chunk} (is : n ≡ chunkFrames (s .head) k) (e : chunk ≡ chunkOf s n m) where
+module _ (s : Scene) (samples : Recordings) (k : ℕ) (m : Mixer) {n : ℕ} {chunk : Chunk} (is : n ≡ chunkFrames (s .head) k) (e : chunk ≡ chunkOf s n m) where
   pub chunk-written : (mix₀ : List Float) {mix : List Float} → 2 * n ≤ length mix₀ → mix ≡ withFrames (scratch 0 (chunk .frames)) (mixedSet chunk samples) mix₀ → pieces (framePiece (s .head .channels) (frameAt (scratch 0 n) mix)) n ≡ chunkSamples s samples k m
   unfolding chunkSamples
   chunk-written mix₀ long q =
@@ -167,7 +168,7 @@ module _ (s : Scene) (ok : SceneOk s) {k count : ℕ} (l : k < count) (all : cou
   turn-fits is = le-trans (turn-ends is) (room s ok)
 
 -- a turn
-module _ (s : Scene) (samples : List Float) (m : Mixer) (some : 1 ≤ s .head .buffer) (k n : ℕ) (l : k < chunkCount (s .head)) (is : n ≡ chunkFrames (s .head) k) where
+module _ (s : Scene) (samples : Recordings) (m : Mixer) (some : 1 ≤ s .head .buffer) (k n : ℕ) (l : k < chunkCount (s .head)) (is : n ≡ chunkFrames (s .head) k) where
   pub block-turn : (out₀ : List Float) {out last : List Float} {now : Mixer} → now ≡ chunksDone s k m → out ≡ begun (pieces (blockPiece s samples m) k) out₀ → last ≡ chunkSamples s samples k (inChunk s k now)
       → take (k * s .head .buffer * s .head .channels) out
       ++ (last ++ drop (k * s .head .buffer * s .head .channels + n * s .head .channels - k * s .head .buffer * s .head .channels) (drop (k * s .head .buffer * s .head .channels) out))

@@ -7,13 +7,14 @@ use borrow.Author.Tests.{eqb-true}
 use lib.Dec.{eqb}
 use lib.ListN.{length}
 use lib.Ieee.{Float}
+use Rattle.recordings.specs.Recordings.{Recordings}
 use Rattle.scene_file.specs.Grammar.{tablesOf}
 use Rattle.scene_questions.specs.Questions.{answer}
 use Rattle.scene.specs.Scene.{sceneOf}
 use Rattle.renderer.specs.Renderer.{rendered}
 use Rattle.room_desk.specs.Render.{outputOf}
 
-pub output-refused : (file : List ℕ) (samples output : List Float) → (answer file samples (length output) ≡ 0 → ⊥) → output ≡ outputOf file samples output
+pub output-refused : (file : List ℕ) (samples : Recordings) (output : List Float) → (answer file samples (length output) ≡ 0 → ⊥) → output ≡ outputOf file samples output
 unfolding outputOf
 output-refused file samples output h = go (eqb (answer file samples (length output)) 0) refl
   where

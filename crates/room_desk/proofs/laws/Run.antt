@@ -7,6 +7,7 @@ use lib.Ieee.{Float}
 use mathlib.Core.Option.{none, some}
 use mathlib.Core.Bool.{Bool, true, false, cond}
 use lib.Dec.{T}
+use Rattle.recordings.specs.Recordings.{Recordings}
 use Rattle.laws.proofs.laws.DecibelRange.{ReadRange, value→read}
 use Rattle.tween.specs.Tweenable.{interpolated}
 use Rattle.tween.proofs.laws.Tweenable.{interpolated-read}
@@ -40,7 +41,7 @@ module _ (s : Scene) (ok : SceneOk s) (b k : ℕ) where
       let m = mixerOrdered s b (mixerAt s b) in
       in-chunk-ok s ok k (c + k) (chunksDone s k m) (chunks-ok s ok k c m (ordered-ok s c b (mixerAt s b) ok (blocks-ok s ok b)))
 
-  pub chunk-in-ok : (samples : List Float) → SamplesOk s samples → ChunkOk (chunkIn s b k) samples
+  pub chunk-in-ok : (samples : Recordings) → SamplesOk s samples → ChunkOk (chunkIn s b k) samples
   chunk-in-ok samples heard = chunk-ok s samples (suc (b * chunkCount (s .head) + k)) (chunkFrames (s .head) k) (mixerIn s b k) ok heard mixer-ok (few-frames s k ok)
 
   pub routes-in : (r : ℕ) → r < s .«route_count» → ParameterIn valueRange (parameterOf (mixerIn s b k .routes) r)
@@ -62,7 +63,7 @@ pub record Values (s : Scene) (b k : ℕ) : Type 0 where
   pub routes : (r : ℕ) → r < s .«route_count» → ReadRange (parameterOf (mixerIn s b k .routes) r .«raw_value» .0)
   pub main : ReadWithin (chunkIn s b k .main)
 
-pub values : (file : List ℕ) (samples : List Float) (output : ℕ) (e : answer file samples output ≡ 0) (b k : ℕ) → Values (sceneOf (tablesOf file)) b k
+pub values : (file : List ℕ) (samples : Recordings) (output : ℕ) (e : answer file samples output ≡ 0) (b k : ℕ) → Values (sceneOf (tablesOf file)) b k
 unfolding chunkOf
 values file samples output e b k =
     let s = sceneOf (tablesOf file) in
@@ -89,7 +90,7 @@ read-given x h = go (admitted x) (read-admitted x h)
 given-at : (s : Scene) (ok : SceneOk s) (k : ℕ) (l : Level) → ReadWithin l → GivenAt (chunkFrames (s .head) k) l
 given-at s ok k l h i p = read-given _ (h (amountAt i (chunkFrames (s .head) k)) (amount-is i (chunkFrames (s .head) k) p (few-frames s k ok)))
 
-pub never-eleven : (file : List ℕ) (samples : List Float) (output : ℕ) (e : answer file samples output ≡ 0) (b k : ℕ) → NeverEleven (sceneOf (tablesOf file)) b k
+pub never-eleven : (file : List ℕ) (samples : Recordings) (output : ℕ) (e : answer file samples output ≡ 0) (b k : ℕ) → NeverEleven (sceneOf (tablesOf file)) b k
 never-eleven file samples output e b k =
     let s = sceneOf (tablesOf file) in
     let ok = accepted-ok file samples output e in

@@ -7,6 +7,7 @@ use Prim.Native.Nat.{ℕ}
 use lib.Dec.{eqb}
 use lib.ListN.{length}
 use lib.Ieee.{Float}
+use Rattle.recordings.specs.Recordings.{Recordings}
 use Rattle.scene_file.specs.Grammar.{tablesOf}
 use Rattle.scene_questions.specs.Questions.{answer}
 use Rattle.scene.specs.Scene.{sceneOf}
@@ -14,20 +15,19 @@ use Rattle.accepted.proofs.laws.Passed.{file-passes}
 use Rattle.accepted.proofs.laws.Accepted.{accepted-ok, accepted-samples}
 use Rattle.renderer.specs.Renderer.{rendered}
 use Rattle.noninterference.specs.Removed.{Choice}
-use Rattle.noninterference.specs.Alike.{alike}
+use Rattle.noninterference.specs.Alike.{AreSamples, alike}
 use Rattle.noninterference.proofs.laws.FromAlike.{first-left, second-left}
 use Rattle.noninterference.proofs.laws.Show.{rendered-same}
 use Rattle.room_desk.specs.Render.{outputOf}
-use Rattle.laws.specs.Float.{AreF32}
 use Rattle.room_desk.proofs.laws.Run.{chunk-in-ok, routes-in}
 
 -- an accepted scene's output is its render
-pub output-accepted : (file : List ℕ) (samples output : List Float) → answer file samples (length output) ≡ 0 → outputOf file samples output ≡ rendered (sceneOf (tablesOf file)) samples
+pub output-accepted : (file : List ℕ) (samples : Recordings) (output : List Float) → answer file samples (length output) ≡ 0 → outputOf file samples output ≡ rendered (sceneOf (tablesOf file)) samples
 unfolding outputOf
 output-accepted file samples output e = ap (λ (n : ℕ). cond (eqb n 0) (rendered (sceneOf (tablesOf file)) samples) output) e
 
-module _ (file₁ : List ℕ) (samples₁ output₁ : List Float) (chosen₁ : Choice) (file₂ : List ℕ) (samples₂ output₂ : List Float) (chosen₂ : Choice) where
-  pub silence : AreF32 samples₁ → AreF32 samples₂ → answer file₁ samples₁ (length output₁) ≡ 0 → answer file₂ samples₂ (length output₂) ≡ 0
+module _ (file₁ : List ℕ) (samples₁ : Recordings) (output₁ : List Float) (chosen₁ : Choice) (file₂ : List ℕ) (samples₂ : Recordings) (output₂ : List Float) (chosen₂ : Choice) where
+  pub silence : AreSamples samples₁ → AreSamples samples₂ → answer file₁ samples₁ (length output₁) ≡ 0 → answer file₂ samples₂ (length output₂) ≡ 0
       → alike (tablesOf file₁) samples₁ chosen₁ (tablesOf file₂) samples₂ chosen₂ ≡ true
       → outputOf file₁ samples₁ output₁ ≡ outputOf file₂ samples₂ output₂
   silence fit₁ fit₂ e₁ e₂ same =

@@ -151,11 +151,11 @@ unfolding routeOf
 route-is v a x0 x1 x2 r0 r1 r2 e0 e1 e2 p0 p1 p2 =
     rw (field-at v a (width (tableAt routes)) (routeColumn .track) (omega arith), field-at v a (width (tableAt routes)) (routeColumn .send) (omega arith), field-at v a (width (tableAt routes)) (routeColumn .volume) (omega arith), ← e0, ← e1, ← e2, p0, p1, p2)
 
-pub sound-is : (v : List ℕ) (a x0 x1 x2 : ℕ) (r0 : ℕ) (r1 : ℕ) (r2 : ℕ) → x0 ≡ getD v (a + soundColumn .track) 0 → x1 ≡ getD v (a + soundColumn .first) 0 → x2 ≡ getD v (a + soundColumn .count) 0 → r0 ≡ natural x0 → r1 ≡ natural x1 → r2 ≡ natural x2
-    → _≡_ {A = SoundLine} (record { track = r0; first = r1; count = r2 }) (soundOf (take (width (tableAt sounds)) (drop a v)))
+pub sound-is : (v : List ℕ) (a x0 x1 x2 x3 : ℕ) (r0 : ℕ) (r1 : ℕ) (r2 : ℕ) (r3 : ℕ) → x0 ≡ getD v (a + soundColumn .track) 0 → x1 ≡ getD v (a + soundColumn .first) 0 → x2 ≡ getD v (a + soundColumn .count) 0 → x3 ≡ getD v (a + soundColumn .from) 0 → r0 ≡ natural x0 → r1 ≡ natural x1 → r2 ≡ natural x2 → r3 ≡ natural x3
+    → _≡_ {A = SoundLine} (record { track = r0; first = r1; count = r2; from = r3 }) (soundOf (take (width (tableAt sounds)) (drop a v)))
 unfolding soundOf
-sound-is v a x0 x1 x2 r0 r1 r2 e0 e1 e2 p0 p1 p2 =
-    rw (field-at v a (width (tableAt sounds)) (soundColumn .track) (omega arith), field-at v a (width (tableAt sounds)) (soundColumn .first) (omega arith), field-at v a (width (tableAt sounds)) (soundColumn .count) (omega arith), ← e0, ← e1, ← e2, p0, p1, p2)
+sound-is v a x0 x1 x2 x3 r0 r1 r2 r3 e0 e1 e2 e3 p0 p1 p2 p3 =
+    rw (field-at v a (width (tableAt sounds)) (soundColumn .track) (omega arith), field-at v a (width (tableAt sounds)) (soundColumn .first) (omega arith), field-at v a (width (tableAt sounds)) (soundColumn .count) (omega arith), field-at v a (width (tableAt sounds)) (soundColumn .from) (omega arith), ← e0, ← e1, ← e2, ← e3, p0, p1, p2, p3)
 
 pub order-is : (v : List ℕ) (a x0 x1 x2 x3 x4 x5 x6 x7 x8 x9 : ℕ) (r0 : ℕ) (r1 : OrderKind) (r2 : ℕ) (r3 : Decibels) (r4 : StartTime) (r5 : ℕ) (r6 : Easing) → x0 ≡ getD v (a + orderColumn .block) 0 → x1 ≡ getD v (a + orderColumn .kind) 0 → x2 ≡ getD v (a + orderColumn .index) 0 → x3 ≡ getD v (a + orderColumn .volume) 0 → x4 ≡ getD v (a + orderColumn .clock) 0 → x5 ≡ getD v (a + orderColumn .when) 0 → x6 ≡ getD v (a + orderColumn .part) 0 → x7 ≡ getD v (a + orderColumn .millis) 0 → x8 ≡ getD v (a + orderColumn .easing) 0 → x9 ≡ getD v (a + orderColumn .power) 0 → r0 ≡ natural x0 → r1 ≡ kindOf x1 → r2 ≡ natural x2 → r3 ≡ volumeOf x3 → r4 ≡ startTimeOf x4 x5 x6 → r5 ≡ natural x7 → r6 ≡ easingOf x8 x9
     → _≡_ {A = OrderLine} (record { block = r0; kind = r1; index = r2; target = r3; «start_time» = r4; millis = r5; easing = r6 }) (orderOf (take (width (tableAt orders)) (drop a v)))

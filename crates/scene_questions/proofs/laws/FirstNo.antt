@@ -1,12 +1,10 @@
 -- Laws of the first question that says no: asked one after the other, as a loop asks them; of questions that follow others; and of all that say
--- yes. Each is over any list whose numbers go up by one (`inOrder`), so that a question more changes no law.
+-- yes. Each is over any list none of whose numbers is 0 (`numbered`), so that a question more changes no law.
 use mathlib.Core.Path.{_≡_, refl, sym, _∙_}
-use mathlib.Core.Bool.{Bool, true, false, cond, _&&_}
+use mathlib.Core.Bool.{Bool, true, false, cond, not, _&&_}
 use mathlib.Core.List.{List, [], _∷_, _++_}
 use Prim.Native.Nat.{ℕ, zero, suc, _+_, _<_, _≤_}
-use native.Mathlib.Nat.{add-zero}
-use native.Mathlib.Omega.{arith}
-use borrow.Author.Tests.{eqb-true}
+use borrow.Author.Tests.{eqb-false, not-true}
 use lib.Dec.{eqb}
 use lib.ListN.{length, drop, drop-of-length-le}
 use Rattle.laws.proofs.laws.Choice.{and-left, and-right}
@@ -14,16 +12,19 @@ use Rattle.scene_file.proofs.laws.Tails.{rest}
 use Rattle.scene_questions.specs.Questions.{Question, firstNo}
 use Rattle.scene_questions.specs.Places.{questionAt}
 
--- the numbers go up by one, from a number on
-unfoldable pub inOrder : ℕ → List Question → Bool
-inOrder n [] = true
-inOrder n (q ∷ qs) = eqb (q .0) n && inOrder (suc n) qs
+-- no number is 0, which says that all say yes
+unfoldable pub numbered : List Question → Bool
+numbered [] = true
+numbered (q ∷ qs) = not (eqb (q .0) 0) && numbered qs
 
-pub number-at : (n : ℕ) (qs : List Question) → inOrder n qs ≡ true → (i : ℕ) → i < length qs → questionAt qs i .0 ≡ n + i
-unfolding inOrder
-number-at n [] o i h = absurd (omega arith)
-number-at n (q ∷ qs) o zero h = eqb-true (q .0) n (and-left (eqb (q .0) n) (inOrder (suc n) qs) o) ∙ sym (add-zero n)
-number-at n (q ∷ qs) o (suc i) h = number-at (suc n) qs (and-right (eqb (q .0) n) (inOrder (suc n) qs) o) i (omega arith) ∙ omega arith
+module _ (q : Question) (qs : List Question) (some : numbered (q ∷ qs) ≡ true) where
+  pub first-numbered : q .0 ≡ 0 → ⊥
+  unfolding numbered
+  first-numbered = eqb-false (q .0) 0 (not-true (eqb (q .0) 0) (and-left (not (eqb (q .0) 0)) (numbered qs) some))
+
+  pub rest-numbered : numbered qs ≡ true
+  unfolding numbered
+  rest-numbered = and-right (not (eqb (q .0) 0)) (numbered qs) some
 
 -- ---- one after the other
 
@@ -42,19 +43,16 @@ asked-all qs i h = rw (drop-of-length-le qs h)
 
 -- ---- all say yes
 
-pub yes-at : (n : ℕ) (qs : List Question) → inOrder (suc n) qs ≡ true → firstNo qs ≡ 0 → (i : ℕ) → questionAt qs i .1 ≡ true
-unfolding inOrder firstNo
-yes-at n [] o e i = refl
-yes-at n (q ∷ qs) o e i = go (q .1) refl e i (yes-at (suc n) qs (and-right (eqb (q .0) (suc n)) (inOrder (suc (suc n)) qs) o))
+pub yes-at : (qs : List Question) → numbered qs ≡ true → firstNo qs ≡ 0 → (i : ℕ) → questionAt qs i .1 ≡ true
+unfolding firstNo
+yes-at [] o e i = refl
+yes-at (q ∷ qs) o e i = go (q .1) refl e i (yes-at qs (rest-numbered q qs o))
   where
-    number : q .0 ≡ suc n
-    number = eqb-true (q .0) (suc n) (and-left (eqb (q .0) (suc n)) (inOrder (suc (suc n)) qs) o)
-
     go : (b : Bool) → q .1 ≡ b → cond b (firstNo qs) (q .0) ≡ 0 → (i : ℕ) → (firstNo qs ≡ 0 → (j : ℕ) → questionAt qs j .1 ≡ true)
         → questionAt (q ∷ qs) i .1 ≡ true
     go true h e zero ih = h
     go true h e (suc i) ih = ih e i
-    go false h e i ih = absurd (omega (arith, number))
+    go false h e i ih = absurd (first-numbered q qs o e)
 
 -- ---- questions that follow others
 
@@ -68,9 +66,9 @@ refused-first (q ∷ qs) rs h = go (q .1) h (refused-first qs rs)
     go true h ih = ih h
     go false h ih = refl
 
-pub passed-first : (n : ℕ) (qs rs : List Question) → inOrder (suc n) qs ≡ true → firstNo qs ≡ 0 → firstNo (qs ++ rs) ≡ firstNo rs
-unfolding inOrder firstNo
-passed-first n [] rs o e = refl
-passed-first n (q ∷ qs) rs o e =
-    rw (yes-at n (q ∷ qs) o e 0)
-    (passed-first (suc n) qs rs (and-right (eqb (q .0) (suc n)) (inOrder (suc (suc n)) qs) o) (sym (rw (yes-at n (q ∷ qs) o e 0)) ∙ e))
+pub passed-first : (qs rs : List Question) → numbered qs ≡ true → firstNo qs ≡ 0 → firstNo (qs ++ rs) ≡ firstNo rs
+unfolding firstNo
+passed-first [] rs o e = refl
+passed-first (q ∷ qs) rs o e =
+    rw (yes-at (q ∷ qs) o e 0)
+    (passed-first qs rs (rest-numbered q qs o) (sym (rw (yes-at (q ∷ qs) o e 0)) ∙ e))

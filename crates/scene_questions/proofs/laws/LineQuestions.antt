@@ -5,14 +5,14 @@ use mathlib.Core.List.{List}
 use Prim.Native.Nat.{ℕ, zero, suc, _+_, _-_, _*_, _/_, _%_, _<_, _≤_}
 use native.Mathlib.Numerals.{add-one}
 use native.Mathlib.Omega.{arith}
-use borrow.Author.Tests.{eq-eqb, ne-eqb, le-leb, lt-leb, not-true, not-false}
+use borrow.Author.Tests.{eq-eqb, ne-eqb, not-true, not-false}
 use lib.Dec.{eqb, leb}
 use lib.ListN.{length, getD}
 use lib.Ieee.{Float, nan}
 use Rattle.limits.specs.Limits.{trackDepth}
 use Rattle.scene_tables.specs.Bytes.{every}
 use Rattle.scene_tables.specs.Tables.{natural, tableAt, width, tracks, routes, sounds, trackColumn, routeColumn, soundColumn}
-use Rattle.scene_questions.specs.Questions.{parentOf, withinDepth, depthsFit, samePair, newPair, routesFit, soundFits, soundsFit, sampleOk, samplesOk}
+use Rattle.scene_questions.specs.Questions.{parentOf, withinDepth, depthsFit, samePair, newPair, routesFit, cell, soundFits, soundsFit, sampleOk, samplesOk}
 use Rattle.scene_questions.specs.Places.{rowsIn}
 use Rattle.scene_tables.proofs.laws.Every.{every-none, every-passed, every-failed, every-done}
 use Rattle.scene_questions.proofs.laws.Places.{rows-length, cell-at, cell-beyond}
@@ -137,38 +137,43 @@ module _ (v : List ℕ) (s n : ℕ) where
 
 -- ---- 8. sounds
 
-module _ (v : List ℕ) (s n : ℕ) (samples : List Float) where
-  pub sounds-odd : (length samples % 2 ≡ 0 → ⊥) → false ≡ soundsFit (rowsIn v s (width (tableAt sounds)) n) samples
+module _ (v : List ℕ) (s n from frames i z0 f : ℕ) (hi : i < n) (is0 : z0 ≡ getD v (s + i * width (tableAt sounds) + soundColumn .from) 0) (isf : f ≡ natural z0) where
+  from-is : natural (cell (rowsIn v s (width (tableAt sounds)) n) i (soundColumn .from)) ≡ f
+  from-is = rw (cell-at v s (width (tableAt sounds)) n i (soundColumn .from) hi (omega arith), ← is0, ← isf)
+
+  pub sound-elsewhere : (f ≡ from → ⊥) → true ≡ soundFits (rowsIn v s (width (tableAt sounds)) n) from frames i
+  unfolding soundFits
+  sound-elsewhere h = rw (from-is, ne-eqb f from h)
+
+  pub sound-here : (z1 z2 first count : ℕ) → f ≡ from → z1 ≡ getD v (s + i * width (tableAt sounds) + soundColumn .first) 0 → z2 ≡ getD v (s + i * width (tableAt sounds) + soundColumn .count) 0
+      → first ≡ natural z1 → count ≡ natural z2 → leb (first + count) frames ≡ soundFits (rowsIn v s (width (tableAt sounds)) n) from frames i
+  unfolding soundFits
+  sound-here z1 z2 first count h is1 is2 ise isc =
+      rw (from-is, eq-eqb f from h, cell-at v s (width (tableAt sounds)) n i (soundColumn .first) hi (omega arith), cell-at v s (width (tableAt sounds)) n i (soundColumn .count) hi (omega arith), ← is1, ← is2, ← ise, ← isc)
+
+module _ (v : List ℕ) (s n from : ℕ) (samples : List Float) where
+  unfoldable pub soundTest : ℕ → Bool
+  soundTest = soundFits (rowsIn v s (width (tableAt sounds)) n) from (length samples / 2)
+
+  pub sounds-odd : (length samples % 2 ≡ 0 → ⊥) → false ≡ soundsFit (rowsIn v s (width (tableAt sounds)) n) from samples
   unfolding soundsFit
   sounds-odd h = rw (ne-eqb (length samples % 2) 0 h)
 
-  pub sounds-none : every 0 (soundFits (rowsIn v s (width (tableAt sounds)) n) (length samples / 2)) ≡ true
-  sounds-none = every-none (soundFits (rowsIn v s (width (tableAt sounds)) n) (length samples / 2))
+  pub sounds-none : every 0 soundTest ≡ true
+  sounds-none = every-none soundTest
 
-  module _ (i z1 z2 first count : ℕ) (hi : i < n) (is1 : z1 ≡ getD v (s + i * width (tableAt sounds) + soundColumn .first) 0) (is2 : z2 ≡ getD v (s + i * width (tableAt sounds) + soundColumn .count) 0) (isf : first ≡ natural z1) (isc : count ≡ natural z2) where
-    sound-is : soundFits (rowsIn v s (width (tableAt sounds)) n) (length samples / 2) i ≡ leb (first + count) (length samples / 2)
-    unfolding soundFits
-    sound-is = rw (cell-at v s (width (tableAt sounds)) n i (soundColumn .first) hi (omega arith), cell-at v s (width (tableAt sounds)) n i (soundColumn .count) hi (omega arith), ← is1, ← is2, ← isf, ← isc)
+  pub sounds-failed : (i : ℕ) (b : Bool) → i < n → length samples % 2 ≡ 0 → b ≡ soundFits (rowsIn v s (width (tableAt sounds)) n) from (length samples / 2) i → not b ≡ true → false ≡ soundsFit (rowsIn v s (width (tableAt sounds)) n) from samples
+  unfolding soundsFit soundTest
+  sounds-failed i b h e is k =
+      rw (eq-eqb (length samples % 2) 0 e, rows-length v s (width (tableAt sounds)) n) (every-failed n soundTest i h (sym is ∙ not-true b k))
 
-    pub sounds-failed : length samples % 2 ≡ 0 → length samples / 2 < first + count → false ≡ soundsFit (rowsIn v s (width (tableAt sounds)) n) samples
-    unfolding soundsFit
-    sounds-failed e h =
-        rw (eq-eqb (length samples % 2) 0 e, rows-length v s (width (tableAt sounds)) n)
-        (every-failed n (soundFits (rowsIn v s (width (tableAt sounds)) n) (length samples / 2)) i hi (sound-is ∙ lt-leb (first + count) (length samples / 2) h))
+  pub sounds-passed : (i : ℕ) (b : Bool) → b ≡ soundFits (rowsIn v s (width (tableAt sounds)) n) from (length samples / 2) i → not b ≡ false → every i soundTest ≡ true → every (i + 1) soundTest ≡ true
+  unfolding soundTest
+  sounds-passed i b is k q = every-passed i soundTest q (sym is ∙ not-false b k)
 
-  pub sounds-done : (i : ℕ) → length samples % 2 ≡ 0 → n ≤ i → i ≤ n → every i (soundFits (rowsIn v s (width (tableAt sounds)) n) (length samples / 2)) ≡ true
-      → true ≡ soundsFit (rowsIn v s (width (tableAt sounds)) n) samples
-  unfolding soundsFit
-  sounds-done i e h k q =
-      rw (eq-eqb (length samples % 2) 0 e, rows-length v s (width (tableAt sounds)) n) (every-done n (soundFits (rowsIn v s (width (tableAt sounds)) n) (length samples / 2)) i h k q)
-
-pub sounds-passed : (v : List ℕ) (s n frames i z1 z2 first count : ℕ) → i < n → z1 ≡ getD v (s + i * width (tableAt sounds) + soundColumn .first) 0 → z2 ≡ getD v (s + i * width (tableAt sounds) + soundColumn .count) 0
-    → first ≡ natural z1 → count ≡ natural z2 → first + count ≤ frames → every i (soundFits (rowsIn v s (width (tableAt sounds)) n) frames) ≡ true
-    → every (i + 1) (soundFits (rowsIn v s (width (tableAt sounds)) n) frames) ≡ true
-unfolding soundFits
-sounds-passed v s n frames i z1 z2 first count hi is1 is2 isf isc h q =
-    every-passed i (soundFits (rowsIn v s (width (tableAt sounds)) n) frames) q
-    (rw (cell-at v s (width (tableAt sounds)) n i (soundColumn .first) hi (omega arith), cell-at v s (width (tableAt sounds)) n i (soundColumn .count) hi (omega arith), ← is1, ← is2, ← isf, ← isc) (le-leb (first + count) frames h))
+  pub sounds-done : (i : ℕ) → length samples % 2 ≡ 0 → n ≤ i → i ≤ n → every i soundTest ≡ true → true ≡ soundsFit (rowsIn v s (width (tableAt sounds)) n) from samples
+  unfolding soundsFit soundTest
+  sounds-done i e h k q = rw (eq-eqb (length samples % 2) 0 e, rows-length v s (width (tableAt sounds)) n) (every-done n soundTest i h k q)
 
 -- ---- 9. samples
 

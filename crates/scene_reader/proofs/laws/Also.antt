@@ -1,48 +1,52 @@
--- Laws of a question with a further test: where the test says yes nothing changes, and where all say yes without it or with it. Assumes nothing.
-use mathlib.Core.Path.{_≡_, refl, _∙_, ap}
+-- Laws of questions with a further test: where all say yes with it, all do without it; and samples that are whole. Assumes nothing.
+use mathlib.Core.Path.{_≡_, refl}
 use mathlib.Core.Bool.{Bool, true, false, cond, _&&_}
 use mathlib.Core.List.{List, [], _∷_}
-use Prim.Native.Nat.{ℕ, suc}
-use native.Mathlib.Omega.{arith}
-use borrow.Author.Tests.{eqb-true}
-use lib.Dec.{eqb}
-use lib.Ieee.{Float}
-use Rattle.laws.proofs.laws.Choice.{and-left, and-right}
+use Prim.Native.Nat.{ℕ, zero, suc, _+_}
+use Rattle.recordings.specs.Recordings.{Recordings}
 use Rattle.scene_questions.specs.Questions.{Question, firstNo, tableQuestions, inputQuestions}
-use Rattle.scene_questions.proofs.laws.FirstNo.{inOrder}
-use Rattle.scene_reader.specs.Answer.{also}
-
-pub also-yes : (n : ℕ) (qs : List Question) → also n true qs ≡ qs
-unfolding also
-also-yes n [] = refl
-also-yes n (q ∷ qs) = ap (λ (b : Bool). (q .0, b) ∷ also n true qs) (go (eqb (q .0) n)) ∙ ap (λ (l : List Question). q ∷ l) (also-yes n qs)
-  where
-    go : (b : Bool) → cond b (true && q .1) (q .1) ≡ q .1
-    go true = refl
-    go false = refl
+use Rattle.scene_questions.proofs.laws.FirstNo.{numbered, first-numbered, rest-numbered}
+use Rattle.scene_reader.specs.Answer.{also, houseSounds, visitorSounds, readTableQuestions, readQuestions}
 
 -- all say yes, with a further test
-pub also-passed : (k n : ℕ) (test : Bool) (qs : List Question) → inOrder (suc k) qs ≡ true → firstNo (also n test qs) ≡ 0 → firstNo qs ≡ 0
-unfolding also inOrder firstNo
-also-passed k n test [] o e = refl
-also-passed k n test (q ∷ qs) o e = go (eqb (q .0) n) test (q .1) e (also-passed (suc k) n test qs (and-right (eqb (q .0) (suc k)) (inOrder (suc (suc k)) qs) o))
+also-passed : (k : ℕ) (test : Bool) (qs : List Question) → numbered qs ≡ true → firstNo (also k test qs) ≡ 0 → firstNo qs ≡ 0
+unfolding also firstNo
+also-passed zero test [] o e = refl
+also-passed zero test (q ∷ qs) o e = go test (q .1) e
   where
-    number : q .0 ≡ suc k
-    number = eqb-true (q .0) (suc k) (and-left (eqb (q .0) (suc k)) (inOrder (suc (suc k)) qs) o)
+    go : (a b : Bool) → cond (a && b) (firstNo qs) (q .0) ≡ 0 → cond b (firstNo qs) (q .0) ≡ 0
+    go true b e = e
+    go false true e = absurd (first-numbered q qs o e)
+    go false false e = e
+also-passed (suc k) test [] o e = refl
+also-passed (suc k) test (q ∷ qs) o e = go (q .1) e (also-passed k test qs (rest-numbered q qs o))
+  where
+    go : (b : Bool) → cond b (firstNo (also k test qs)) (q .0) ≡ 0 → (firstNo (also k test qs) ≡ 0 → firstNo qs ≡ 0) → cond b (firstNo qs) (q .0) ≡ 0
+    go true e ih = ih e
+    go false e ih = e
 
-    go : (a b c : Bool) → cond (cond a (b && c) c) (firstNo (also n test qs)) (q .0) ≡ 0 → (firstNo (also n test qs) ≡ 0 → firstNo qs ≡ 0) → cond c (firstNo qs) (q .0) ≡ 0
-    go true true true e ih = ih e
-    go true true false e ih = e
-    go true false true e ih = absurd (omega (arith, number))
-    go true false false e ih = e
-    go false b true e ih = ih e
-    go false b false e ih = e
+module _ (file : List ℕ) (samples : Recordings) where
+  pub input-numbered : numbered (inputQuestions file samples) ≡ true
+  unfolding numbered inputQuestions tableQuestions
+  input-numbered = refl
 
--- the numbers of questions 1 to 9
-pub input-in-order : (file : List ℕ) (samples : List Float) → inOrder 1 (inputQuestions file samples) ≡ true
-unfolding inOrder inputQuestions tableQuestions
-input-in-order file samples = refl
+  -- whole samples
+  pub read-whole : readQuestions file samples true true ≡ inputQuestions file samples
+  unfolding also readQuestions readTableQuestions inputQuestions tableQuestions
+  read-whole = refl
 
-pub also-in-order : (n : ℕ) (test : Bool) (file : List ℕ) (samples : List Float) → inOrder 1 (also n test (inputQuestions file samples)) ≡ true
-unfolding inOrder also inputQuestions tableQuestions
-also-in-order n test file samples = refl
+  module _ (whole visitorWhole : Bool) where
+    pub read-numbered : numbered (readQuestions file samples whole visitorWhole) ≡ true
+    unfolding numbered also readQuestions readTableQuestions tableQuestions
+    read-numbered = refl
+
+    visitor-numbered : numbered (also (2 + visitorSounds) visitorWhole (inputQuestions file samples)) ≡ true
+    unfolding numbered also inputQuestions tableQuestions
+    visitor-numbered = refl
+
+    -- two questions are asked before those of the tables
+    pub read-passed : firstNo (readQuestions file samples whole visitorWhole) ≡ 0 → firstNo (inputQuestions file samples) ≡ 0
+    unfolding also readQuestions readTableQuestions inputQuestions
+    read-passed e =
+        also-passed (2 + visitorSounds) visitorWhole (inputQuestions file samples) input-numbered
+        (also-passed (2 + houseSounds) whole (also (2 + visitorSounds) visitorWhole (inputQuestions file samples)) visitor-numbered e)

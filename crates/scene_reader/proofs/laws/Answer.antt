@@ -3,12 +3,12 @@
 use mathlib.Core.Path.{_≡_, refl, sym, _∙_, ap}
 use mathlib.Core.Bool.{Bool, true, false, cond, not, _&&_}
 use mathlib.Core.List.{List, [], _∷_}
-use Prim.Native.Nat.{ℕ, _+_, _-_, _*_, _<_, _≤_}
+use Prim.Native.Nat.{ℕ, _+_, _*_, _<_, _≤_}
 use native.Mathlib.Omega.{arith}
 use borrow.Author.Tests.{eq-eqb, ne-eqb, eqb-true, not-true, not-false}
 use lib.Dec.{eqb}
-use lib.ListN.{length, getD, drop}
-use lib.Ieee.{Float}
+use lib.ListN.{length, getD, drop, List·getD-map}
+use Rattle.recordings.specs.Recordings.{Recordings, fromHouse, fromVisitor}
 use Rattle.limits.specs.Limits.{fileBytes}
 use Rattle.scene_file.specs.declared.grammar.Layout.{Layout}
 use Rattle.scene_tables.specs.Tables.{tables, tableAt, width, tracks, routes, sounds, headColumn}
@@ -16,12 +16,12 @@ use Rattle.scene_file.specs.Grammar.{tablesOf}
 use Rattle.scene_file.specs.Readings.{LayoutRead}
 use Rattle.scene.specs.declared.scene.Scene.{Scene}
 use Rattle.scene_reader.specs.declared.answer.Answer.{Answer}
-use Rattle.scene_questions.specs.Questions.{Tables, Question, headCell, sizeOk, spelledOk, depthsFit, routesFit, soundsFit, samplesOk, firstNo, tableQuestions, inputQuestions}
+use Rattle.scene_questions.specs.Questions.{Tables, Question, headCell, sizeOk, spelledOk, depthsFit, routesFit, soundsFit, samplesOk, firstNo, tableQuestions}
 use Rattle.scene_questions.specs.Places.{rowsIn, countAt, countsFit, tablesPass, stored, placesMost, Low, questionAt}
 use Rattle.scene.specs.Scene.{sceneOf}
-use Rattle.scene_reader.specs.Answer.{also, refusal, answered, firstOfTables, lastOfTables}
+use Rattle.scene_reader.specs.Answer.{also, questionsOfTables, readTableQuestions, readQuestions, refusal, answered}
 use Rattle.scene_questions.proofs.laws.FileSize.{size-small}
-use Rattle.scene_questions.proofs.laws.FirstNo.{inOrder, number-at, asked-yes, asked-no, asked-all, yes-at}
+use Rattle.scene_questions.proofs.laws.FirstNo.{numbered, asked-yes, asked-no, asked-all, yes-at}
 use Rattle.scene.proofs.laws.TablesInPlaces.{rows-placed, counts-are, ranges-are, references-are}
 use Rattle.scene_reader.proofs.laws.Read.{layout-test, read-placed}
 
@@ -35,9 +35,13 @@ pub by-blocks : (starts counts v : List ℕ) (b z : ℕ) (r : Bool) → b ≡ z 
     → r ≡ tablesPass false (countAt counts) z starts counts v
 by-blocks starts counts v b z r e h = rw (← e) h
 
-module _ (starts counts v : List ℕ) (samples : List Float) (whole : Bool) where
+-- their numbers
+abbrev pub tableNumbers : List ℕ
+tableNumbers = 3 ∷ 4 ∷ 5 ∷ 6 ∷ 7 ∷ 8 ∷ 8 ∷ 9 ∷ 9 ∷ []
+
+module _ (starts counts v : List ℕ) (samples : Recordings) (whole visitorWhole : Bool) where
   abbrev pub asked : List Question
-  asked = also 8 whole (tableQuestions (stored starts counts v) samples)
+  asked = readTableQuestions (stored starts counts v) samples whole visitorWhole
 
   -- the rows of a table in its place
   abbrev pub placed : ℕ → List (List ℕ)
@@ -51,69 +55,56 @@ module _ (starts counts v : List ℕ) (samples : List Float) (whole : Bool) wher
       ∷ (5, tablesPass true (countAt counts) 0 starts counts v)
       ∷ (6, depthsFit (placed tracks))
       ∷ (7, routesFit (placed routes))
-      ∷ (8, whole && soundsFit (placed sounds) samples)
-      ∷ (9, samplesOk samples)
+      ∷ (8, whole && soundsFit (placed sounds) fromHouse (samples .house))
+      ∷ (8, visitorWhole && soundsFit (placed sounds) fromVisitor (samples .visitor))
+      ∷ (9, samplesOk (samples .house))
+      ∷ (9, samplesOk (samples .visitor))
       ∷ []
 
   asked-places : asked ≡ byPlaces
-  unfolding also tableQuestions byPlaces
+  unfolding also readTableQuestions tableQuestions byPlaces
   asked-places =
       rw (counts-are starts counts v, ranges-are starts counts v (countAt counts), references-are starts counts v 0, rows-placed starts counts v tracks (omega arith), rows-placed starts counts v routes (omega arith), rows-placed starts counts v sounds (omega arith))
 
-  -- a question, by its number
-  pub passes-at : (k question : ℕ) (r : Bool) → question ≡ firstOfTables + k → r ≡ questionAt byPlaces k .1 → r ≡ questionAt asked (question - firstOfTables) .1
-  passes-at k question r h e =
-      let p : question - firstOfTables ≡ k = omega arith in
-      e ∙ rw p (ap (λ (l : List Question). questionAt l k .1) (sym asked-places))
+  -- a question, by its place
+  pub passes-at : (k place : ℕ) (r : Bool) → place ≡ k → r ≡ questionAt byPlaces k .1 → r ≡ questionAt asked place .1
+  passes-at k place r h e = e ∙ rw h (ap (λ (l : List Question). questionAt l k .1) (sym asked-places))
 
-  in-order : inOrder firstOfTables asked ≡ true
-  unfolding inOrder also tableQuestions
-  in-order = refl
+  asked-numbered : numbered asked ≡ true
+  unfolding numbered also readTableQuestions tableQuestions
+  asked-numbered = refl
 
-  count : length asked ≡ lastOfTables + 1 - firstOfTables
-  unfolding also tableQuestions
+  count : length asked ≡ questionsOfTables
+  unfolding also readTableQuestions tableQuestions
   count = refl
 
   -- ---- the loop over them
 
-  pub loop-starts : firstNo (drop (firstOfTables - firstOfTables) asked) ≡ firstNo asked
-  loop-starts = refl
+  number-at : (place : ℕ) → questionAt asked place .0 ≡ getD tableNumbers place 0
+  unfolding also readTableQuestions tableQuestions
+  number-at place = sym (List·getD-map (λ (q : Question). q .0) asked place (0, true))
 
-  module _
-      (question : ℕ)
-      (from : firstOfTables ≤ question)
-      (to : question ≤ lastOfTables)
-      (b : Bool)
-      (isb : b ≡ questionAt asked (question - firstOfTables) .1)
-      (inv : firstNo (drop (question - firstOfTables) asked) ≡ firstNo asked)
-    where
-      there : question - firstOfTables < length asked
-      there = omega (arith, count)
+  module _ (place : ℕ) (more : place < questionsOfTables) (b : Bool) (isb : b ≡ questionAt asked place .1) (inv : firstNo (drop place asked) ≡ firstNo asked) where
+    there : place < length asked
+    there = omega (arith, count)
 
-      pub loop-goes-on : not b ≡ false → firstNo (drop (question + 1 - firstOfTables) asked) ≡ firstNo asked
-      loop-goes-on h =
-          let p : question + 1 - firstOfTables ≡ question - firstOfTables + 1 = omega arith in
-          rw p (sym (asked-yes asked (question - firstOfTables) there (sym isb ∙ not-false b h)) ∙ inv)
+    pub loop-goes-on : not b ≡ false → firstNo (drop (place + 1) asked) ≡ firstNo asked
+    loop-goes-on h = sym (asked-yes asked place there (sym isb ∙ not-false b h)) ∙ inv
 
-      pub loop-stops : not b ≡ true → question ≡ firstNo asked
-      loop-stops h =
-          let p : question ≡ firstOfTables + (question - firstOfTables) = omega arith in
-          p
-          ∙ sym (number-at firstOfTables asked in-order (question - firstOfTables) there)
-          ∙ sym (asked-no asked (question - firstOfTables) there (sym isb ∙ not-true b h))
-          ∙ inv
+    pub loop-stops : not b ≡ true → getD tableNumbers place 0 ≡ firstNo asked
+    loop-stops h = sym (number-at place) ∙ sym (asked-no asked place there (sym isb ∙ not-true b h)) ∙ inv
 
-  pub loop-ends : (question : ℕ) → lastOfTables < question → firstNo (drop (question - firstOfTables) asked) ≡ firstNo asked → 0 ≡ firstNo asked
-  loop-ends question h inv = sym (asked-all asked (question - firstOfTables) (omega (arith, count))) ∙ inv
+  pub loop-ends : (place : ℕ) → questionsOfTables ≤ place → firstNo (drop place asked) ≡ firstNo asked → 0 ≡ firstNo asked
+  loop-ends place h inv = sym (asked-all asked place (omega (arith, count))) ∙ inv
 
 -- ---- questions 1 to 9
 
-module _ (file : List ℕ) (samples : List Float) (whole : Bool) where
+module _ (file : List ℕ) (samples : Recordings) (whole visitorWhole : Bool) where
   abbrev pub all : List Question
-  all = also 8 whole (inputQuestions file samples)
+  all = readQuestions file samples whole visitorWhole
 
   pub answered-1 : (b : Bool) (r : Answer) → b ≡ sizeOk file → not b ≡ true → r ≡ refusal 1 → r ≡ answered file (firstNo all)
-  unfolding answered also inputQuestions firstNo
+  unfolding answered readQuestions firstNo
   answered-1 b r e h p = rw (← e, not-true b h) p
 
   module _ (a : Bool) (isa : a ≡ sizeOk file) (yes-a : not a ≡ false) where
@@ -122,18 +113,18 @@ module _ (file : List ℕ) (samples : List Float) (whole : Bool) where
 
     module _ (before : List ℕ) (l : Layout) (after : List ℕ) (read : LayoutRead file before l after) where
       pub answered-2 : (r : Answer) → not (l .ok) ≡ true → r ≡ refusal 2 → r ≡ answered file (firstNo all)
-      unfolding answered also inputQuestions firstNo spelledOk
+      unfolding answered readQuestions firstNo spelledOk
       answered-2 r h p = rw (← isa, not-false a yes-a, layout-test file before l after read ∙ not-true (l .ok) h) p
 
-      module _ (yes-l : not (l .ok) ≡ false) (n : ℕ) (isn : n ≡ firstNo (asked (l .starts) (l .counts) after samples whole)) where
+      module _ (yes-l : not (l .ok) ≡ false) (n : ℕ) (isn : n ≡ firstNo (asked (l .starts) (l .counts) after samples whole visitorWhole)) where
         good : l .ok ≡ true
         good = not-false (l .ok) yes-l
 
         first-is : firstNo all ≡ n
-        unfolding also inputQuestions firstNo spelledOk
+        unfolding readQuestions firstNo spelledOk
         first-is =
             rw (← isa, not-false a yes-a, layout-test file before l after read ∙ good)
-            (sym (isn ∙ ap (λ (ts : Tables). firstNo (also 8 whole (tableQuestions ts samples))) (read-placed file before l after read good)))
+            (sym (isn ∙ ap (λ (ts : Tables). firstNo (readTableQuestions ts samples whole visitorWhole)) (read-placed file before l after read good)))
 
         pub answered-n : (r : Answer) → (n ≡ 0 → ⊥) → r ≡ refusal n → r ≡ answered file (firstNo all)
         unfolding answered
@@ -143,8 +134,9 @@ module _ (file : List ℕ) (samples : List Float) (whole : Bool) where
         pub counts-known : n ≡ 0 → countsFit (l .counts) ≡ true
         unfolding byPlaces
         counts-known h =
-            let q = asked-places (l .starts) (l .counts) after samples whole in
-            sym (ap (λ (p : List Question). questionAt p 0 .1) q) ∙ yes-at 2 (asked (l .starts) (l .counts) after samples whole) (in-order (l .starts) (l .counts) after samples whole) (sym isn ∙ h) 0
+            let q = asked-places (l .starts) (l .counts) after samples whole visitorWhole in
+            sym (ap (λ (p : List Question). questionAt p 0 .1) q)
+            ∙ yes-at (asked (l .starts) (l .counts) after samples whole visitorWhole) (asked-numbered (l .starts) (l .counts) after samples whole visitorWhole) (sym isn ∙ h) 0
 
         pub answered-0 : n ≡ 0 → (s : Scene) → s ≡ sceneOf (stored (l .starts) (l .counts) after) → _≡_ {A = Answer} (record { number = 0; scene = s }) (answered file (firstNo all))
         unfolding answered

@@ -7,19 +7,19 @@ use native.Mathlib.Nat.{mul-le-mul}
 use native.Mathlib.Omega.{arith}
 use borrow.Author.Tests.{eq-eqb, ne-eqb}
 use lib.Dec.{eqb}
-use lib.Ieee.{Float}
 use mir.Syntax.{w64}
 use mir.Val.{Fits}
+use Rattle.recordings.specs.Recordings.{Recordings}
 use Rattle.limits.specs.Limits.{blockFramesMost, blocksMost, channelsMost}
 use Rattle.scene_file.specs.Grammar.{tablesOf}
 use Rattle.scene_questions.specs.Questions.{Question, outputLength, firstNo, inputQuestions, answer}
 use Rattle.scene_questions.proofs.laws.FirstNo.{refused-first, passed-first}
 use Rattle.scene.specs.declared.scene.Scene.{Scene}
 use Rattle.scene_reader.specs.declared.answer.Answer.{Answer}
-use Rattle.scene_reader.specs.Answer.{also, refusal, answered}
+use Rattle.scene_reader.specs.Answer.{readQuestions, refusal, answered}
 use Rattle.accepted.specs.SceneOk.{SceneOk}
 use Rattle.accepted.proofs.laws.Accepted.{accepted-ok, accepted-length}
-use Rattle.scene_reader.proofs.laws.Also.{also-yes, input-in-order}
+use Rattle.scene_reader.proofs.laws.Also.{read-whole, input-numbered}
 use Rattle.scene_reader.proofs.laws.Answer.{answered-number, answered-scene}
 
 -- ---- the product
@@ -38,25 +38,25 @@ module _ (b n : ℕ) (small-b : b ≤ blockFramesMost) (small-n : n ≤ blocksMo
 
 -- ---- one question more
 
-module _ (file : List ℕ) (samples : List Float) (output : ℕ) where
+module _ (file : List ℕ) (samples : Recordings) (output : ℕ) where
   pub refused-input : (firstNo (inputQuestions file samples) ≡ 0 → ⊥) → answer file samples output ≡ firstNo (inputQuestions file samples)
   unfolding answer
   refused-input h = refused-first (inputQuestions file samples) ((10, eqb output (outputLength (tablesOf file))) ∷ []) h
 
   passed-input : firstNo (inputQuestions file samples) ≡ 0 → answer file samples output ≡ cond (eqb output (outputLength (tablesOf file))) 0 10
   unfolding answer firstNo
-  passed-input e = passed-first 0 (inputQuestions file samples) ((10, eqb output (outputLength (tablesOf file))) ∷ []) (input-in-order file samples) e
+  passed-input e = passed-first (inputQuestions file samples) ((10, eqb output (outputLength (tablesOf file))) ∷ []) (input-numbered file samples) e
 
 -- an output of its length
-pub accepted-input : (file : List ℕ) (samples : List Float) → firstNo (inputQuestions file samples) ≡ 0 → answer file samples (outputLength (tablesOf file)) ≡ 0
+pub accepted-input : (file : List ℕ) (samples : Recordings) → firstNo (inputQuestions file samples) ≡ 0 → answer file samples (outputLength (tablesOf file)) ≡ 0
 accepted-input file samples e =
     passed-input file samples (outputLength (tablesOf file)) e ∙ rw (eq-eqb (outputLength (tablesOf file)) (outputLength (tablesOf file)) refl)
 
 -- ---- after questions 1 to 9
 
-module _ (file : List ℕ) (samples : List Float) (r : Answer) (read : r ≡ answered file (firstNo (also 8 true (inputQuestions file samples)))) where
+module _ (file : List ℕ) (samples : Recordings) (r : Answer) (read : r ≡ answered file (firstNo (readQuestions file samples true true))) where
   isr : r ≡ answered file (firstNo (inputQuestions file samples))
-  isr = read ∙ ap (λ (qs : List Question). answered file (firstNo qs)) (also-yes 8 (inputQuestions file samples))
+  isr = read ∙ ap (λ (qs : List Question). answered file (firstNo qs)) (read-whole file samples)
 
   number-is : r .number ≡ firstNo (inputQuestions file samples)
   number-is = answered-number file (firstNo (inputQuestions file samples)) isr

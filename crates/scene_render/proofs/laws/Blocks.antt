@@ -7,6 +7,7 @@ use native.Mathlib.Nat.{le-trans, le-of-eq, le-of-lt, add-mul, zero-mul, mul-le-
 use native.Mathlib.Omega.{arith}
 use lib.ListN.{length, take, drop}
 use lib.Ieee.{Float}
+use Rattle.recordings.specs.Recordings.{Recordings}
 use Rattle.limits.specs.Limits.{blockFramesMost, blocksMost}
 use Rattle.laws.proofs.laws.Loop.{upto-zero, upto-turn}
 use Rattle.laws.specs.Pieces.{pieces, begun}
@@ -60,7 +61,7 @@ module _ (s : Scene) (ok : SceneOk s) where
 
 -- ---- a turn
 
-module _ (s : Scene) (samples : List Float) (ok : SceneOk s) where
+module _ (s : Scene) (samples : Recordings) (ok : SceneOk s) where
   pub piece-length : (b : ℕ) → length (showPiece s samples b) ≡ width s
   piece-length b = length-block s samples (mixerOrdered s b (mixerAt s b)) (ok .buffer .0)
 
@@ -115,7 +116,7 @@ pub mixer-reached : (s : Scene) → SceneOk s → (b : ℕ) → {now ordered : M
 mixer-reached s ok b p o = let n = b * chunkCount (s .head) in subst (MixerOk s n) (sym (o ∙ ap (mixerOrdered s b) p)) (ordered-ok s n b (mixerAt s b) ok (blocks-ok s ok b))
 
 -- what a run of blocks asks of a mixer that stands still once block b's orders are read
-pub run-asks : (s : Scene) (samples : List Float) (ok : SceneOk s) → SamplesOk s samples → (b : ℕ) → b < s .head .blocks → {now ordered : Mixer} → now ≡ mixerAt s b → ordered ≡ mixerOrdered s b now
+pub run-asks : (s : Scene) (samples : Recordings) (ok : SceneOk s) → SamplesOk s samples → (b : ℕ) → b < s .head .blocks → {now ordered : Mixer} → now ≡ mixerAt s b → ordered ≡ mixerOrdered s b now
     → mixerSteady s ordered ≡ true → RunOk s ordered b samples
 run-asks s samples ok there b l p o still =
     record {

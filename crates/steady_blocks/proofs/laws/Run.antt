@@ -7,6 +7,7 @@ use native.Mathlib.Omega.{arith}
 use lib.Dec.{lit≤}
 use lib.ListN.{length, getD, take, drop}
 use lib.Ieee.{Float}
+use Rattle.recordings.specs.Recordings.{Recordings}
 use Rattle.limits.specs.Limits.{blocksMost}
 use Rattle.chunk.specs.Flat.{soundLeftsFrom}
 use Rattle.laws.specs.Pieces.{pieces, begun, putAt}
@@ -27,11 +28,11 @@ use Rattle.steady_blocks.proofs.laws.SteadyBlocks.{next-after, next-mos
 use Rattle.steady_mixer.specs.Steady.{afterRun}
 
 -- block j of a run
-abbrev pub runPiece : Scene → List Float → Mixer → ℕ → List Float
+abbrev pub runPiece : Scene → Recordings → Mixer → ℕ → List Float
 runPiece s samples m j = blockSamples s samples (blocksRun s j m)
 
 -- block b of the show
-abbrev pub showPiece : Scene → List Float → ℕ → List Float
+abbrev pub showPiece : Scene → Recordings → ℕ → List Float
 showPiece s samples b = blockSamples s samples (mixerOrdered s b (mixerAt s b))
 
 abbrev pub blockWidth : Scene → ℕ
@@ -50,7 +51,7 @@ module _ (s : Scene) (b : ℕ) (l : b < s .head .blocks) where
   block-fits ok = le-trans (next-place (blockWidth s) b (s .head .blocks) l) (le-trans (mul-le-mul (ok .blocks .1) (room s ok)) (lit≤ tt))
 
 -- block j of a run, and where its samples lie
-module _ {s : Scene} {m : Mixer} {first : ℕ} {samples : List Float} (ask : RunOk s m first samples) {end j : ℕ} (stops : end ≡ nextOrders s first) (l : j < end - first) where
+module _ {s : Scene} {m : Mixer} {first : ℕ} {samples : Recordings} (ask : RunOk s m first samples) {end j : ℕ} (stops : end ≡ nextOrders s first) (l : j < end - first) where
   inside : first + j < s .head .blocks
   inside = omega (arith, next-most s first (ask .inside), stops)
 
@@ -78,7 +79,7 @@ run-turn f first j w out₀ {out} {last} each inside e q =
     ∙ put-turn (first * w) (pieces f j) last out₀ inside e (add-mul first j w ∙ ap (λ (n : ℕ). first * w + n) (sym (length-pieces f w j (λ i b. each i))))
     ∙ ap (λ (p : List Float). putAt (first * w) p out₀) (ap (λ (p : List Float). pieces f j ++ p) q ∙ sym (pieces-next f j))
 
-module _ {s : Scene} {m : Mixer} {first : ℕ} {samples : List Float} (ask : RunOk s m first samples) (j : ℕ) {places : List ℕ} {levels amplitudes : List Float} (h : StandsStill s m places levels amplitudes (blocksRun s j m)) where
+module _ {s : Scene} {m : Mixer} {first : ℕ} {samples : Recordings} (ask : RunOk s m first samples) (j : ℕ) {places : List ℕ} {levels amplitudes : List Float} (h : StandsStill s m places levels amplitudes (blocksRun s j m)) where
   reached : MixerOk s (ask .chunks + j * chunkCount (s .head)) (blocksRun s j m)
   reached = run-ok s m (ask .scene) (ask .chunks) j (ask .mixer)
 
@@ -122,7 +123,7 @@ pieces-add f a (suc b) =
     ∙ append-assoc (pieces f a) (pieces (λ i. f (a + i)) b) (f (a + b))
     ∙ ap (λ (p : List Float). pieces f a ++ p) (sym (pieces-suc (λ i. f (a + i)) b))
 
-module _ {s : Scene} {m : Mixer} {first : ℕ} {samples : List Float} (ask : RunOk s m first samples) (is : m ≡ mixerOrdered s first (mixerAt s first)) {end : ℕ} (stops : end ≡ nextOrders s first) where
+module _ {s : Scene} {m : Mixer} {first : ℕ} {samples : Recordings} (ask : RunOk s m first samples) (is : m ≡ mixerOrdered s first (mixerAt s first)) {end : ℕ} (stops : end ≡ nextOrders s first) where
   more : first < nextOrders s first
   more = next-after s first (ask .inside)
 

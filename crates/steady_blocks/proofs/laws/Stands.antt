@@ -15,7 +15,7 @@ use Rattle.limits.specs.Limits.{trackPlaces, sendLines, routeLines, soundLines}
 use Rattle.scene.specs.declared.scene.Scene.{Scene}
 use Rattle.mixer.specs.declared.mixer.Mixer.{Mixer}
 use Rattle.mixer_chunk.specs.ChunkOf.{chunkOf, chunkTrack, chunkSound, emptyLevel, chunkTracks, chunkSends, chunkRoutes, chunkSounds, emptyTrackRow, emptySoundRow, emptyRouteRow}
-use Rattle.chunk.specs.Flat.{advancingFrom, routeTracksFrom, routeSendsFrom, soundTracksFrom, soundStartsFrom, soundLeftsFrom, framesPlace, trackCountPlace, sendCountPlace, routeCountPlace, soundCountPlace, placesSize, levelSize, trackLevels}
+use Rattle.chunk.specs.Flat.{advancingFrom, routeTracksFrom, routeSendsFrom, soundTracksFrom, soundFromsFrom, soundStartsFrom, soundLeftsFrom, framesPlace, trackCountPlace, sendCountPlace, routeCountPlace, soundCountPlace, placesSize, levelSize, trackLevels}
 use Rattle.chunk.specs.Flat.{chunkFrom, column, trackFrom, routeFrom, soundFrom, levelFrom, placesOf, levelsOf, amplitudesOf}
 use Rattle.steady_blocks.specs.Advance.{framed, moves, framesOf, advanced, TracksThere}
 use Rattle.laws.specs.Loop.{changed}
@@ -85,7 +85,7 @@ module _ (n : ℕ) (places : List ℕ) where
 
   framed-sound : (k : ℕ) → k < soundLines → soundFrom (framed n places) k ≡ soundFrom places k
   unfolding soundFrom
-  framed-sound k h = cc (framed-other (soundTracksFrom + k) (λ e. omega arith), framed-other (soundStartsFrom + k) (λ e. omega arith), framed-other (soundLeftsFrom + k) (λ e. omega arith))
+  framed-sound k h = cc (framed-other (soundTracksFrom + k) (λ e. omega arith), framed-other (soundFromsFrom + k) (λ e. omega arith), framed-other (soundStartsFrom + k) (λ e. omega arith), framed-other (soundLeftsFrom + k) (λ e. omega arith))
 
 -- ---- so many frames more of a sound: `by` as the tables have it
 
@@ -133,6 +133,10 @@ module _ (s : Scene) (m : Mixer) (places : List ℕ) (levels amplitudes : List F
   stands-track : (k : ℕ) → k < s .«sound_count» → getD places (soundTracksFrom + k) 0 ≡ soundLine s k .track
   unfolding soundFrom chunkSound
   stands-track k b = ap (λ (x : ChunkSound). x .track) (sound-line k b)
+
+  stands-from : (k : ℕ) → k < s .«sound_count» → getD places (soundFromsFrom + k) 0 ≡ soundLine s k .from
+  unfolding soundFrom chunkSound
+  stands-from k b = ap (λ (x : ChunkSound). x .from) (sound-line k b)
 
   stands-start : (k : ℕ) → k < s .«sound_count» → getD places (soundStartsFrom + k) 0 ≡ soundLine s k .first + getD (m .played) k 0
   unfolding soundFrom chunkSound
@@ -190,6 +194,7 @@ module _ (s : Scene) (m : Mixer) (places : List ℕ) (levels amplitudes : List F
         let done = getD (m .played) k 0 in
         let inside : k < getD places soundCountPlace 0 = omega (arith, stands-count) in
         let track : getD (advanced n places) (soundTracksFrom + k) 0 ≡ line .track = now-moved .others (soundTracksFrom + k) (apart-before _ (soundTracksFrom + k) (omega (arith, ok .soundCount))) ∙ stands-track k b in
+        let origin : getD (advanced n places) (soundFromsFrom + k) 0 ≡ line .from = now-moved .others (soundFromsFrom + k) (apart-before _ (soundFromsFrom + k) (omega (arith, ok .soundCount))) ∙ stands-from k b in
         let start : getD (advanced n places) (soundStartsFrom + k) 0 ≡ line .first + cond live (playedMore line n done) done = now-moved .start k inside ∙ ap₂ _+_ (stands-start k b) (stands-frames n k b) ∙ start-more line n done (most k b) live in
         let left : getD (advanced n places) (soundLeftsFrom + k) 0 ≡ line .count - cond live (playedMore line n done) done = now-moved .left k inside ∙ ap₂ _-_ (stands-left k b) (stands-frames n k b) ∙ left-more line n done (most k b) live in
         cc (played-now k b)
@@ -199,7 +204,7 @@ module _ (s : Scene) (m : Mixer) (places : List ℕ) (levels amplitudes : List F
     unfolding soundFrom
     sound-kept k few l =
         let past : getD places soundCountPlace 0 ≤ k = omega (arith, stands-count) in
-        cc (now-moved .others (soundTracksFrom + k) (apart-before _ (soundTracksFrom + k) (omega arith)), now-moved .others (soundStartsFrom + k) (apart-start _ k past few), now-moved .others (soundLeftsFrom + k) (apart-left _ k past few))
+        cc (now-moved .others (soundTracksFrom + k) (apart-before _ (soundTracksFrom + k) (omega arith)), now-moved .others (soundFromsFrom + k) (apart-before _ (soundFromsFrom + k) (omega arith)), now-moved .others (soundStartsFrom + k) (apart-start _ k past few), now-moved .others (soundLeftsFrom + k) (apart-left _ k past few))
 
     places-few : (k : ℕ) → k < soundLines → k < length (replicate soundLines emptySoundRow)
     places-few k b = le-trans b (le-of-eq (sym (length-replicate soundLines emptySoundRow)))

@@ -7,6 +7,7 @@ use native.Mathlib.Nat.{add-zero, add-suc}
 use native.Mathlib.Omega.{arith}
 use lib.ListN.{getD}
 use lib.Ieee.{Float}
+use Rattle.recordings.specs.Recordings.{Recordings}
 use Rattle.laws.proofs.laws.Loop.{upto-zero, upto-suc, upto-holds, changed-from}
 use Rattle.laws.proofs.laws.Pieces.{pieces-cong}
 use Rattle.clock.specs.declared.when_to_start.Clocks.{Clocks}
@@ -74,13 +75,13 @@ module _ (s : Scene) (m : Mixer) (places : List ℕ) (levels amplitudes : List F
   unfolding soundsPlayed withClocks afterRun
   chunk-clocks = ap (λ (x : Mixer). x .clocks) steady-chunk-done
 
-  chunk-mixed : (samples : List Float) → chunkSamples s samples k (inChunk s k now) ≡ stillChunk (s .head) levels amplitudes samples k places
+  chunk-mixed : (samples : Recordings) → chunkSamples s samples k (inChunk s k now) ≡ stillChunk (s .head) levels amplitudes samples k places
   unfolding chunkSamples stillChunk mixedSamples
   chunk-mixed samples =
       ap (chunkSamples s samples k) in-steady-chunk
       ∙ ap (λ (x : Chunk). mixedSamples (s .head .channels) (chunkFrames (s .head) k) x samples) (sym (stands-clocks s now places levels amplitudes later (h .stands) .same (chunkFrames (s .head) k)))
 
-  chunk-mixes : (samples : List Float) → SamplesOk s samples → ChunkOk (chunkFrom (framed (chunkFrames (s .head) k) places) levels amplitudes) samples
+  chunk-mixes : (samples : Recordings) → SamplesOk s samples → ChunkOk (chunkFrom (framed (chunkFrames (s .head) k) places) levels amplitudes) samples
   chunk-mixes samples there = subst (λ (x : Chunk). ChunkOk x samples) (sym (h .stands .same (chunkFrames (s .head) k))) (chunk-ok s samples c (chunkFrames (s .head) k) now ok there within (few-frames s k ok))
 
 -- ---- a block
@@ -113,7 +114,7 @@ module _ (s : Scene) (m : Mixer) (places : List ℕ) (levels amplitudes : List F
   pub still-clocks : (k : ℕ) → chunksDone s k now .clocks ≡ stillClocks (s .head) k (now .clocks)
   still-clocks k = reached k .clocks
 
-  module _ (samples : List Float) where
+  module _ (samples : Recordings) where
     pub steady-block : blockSamples s samples now ≡ stillSamples (s .head) places levels amplitudes samples
     unfolding blockSamples stillSamples
     steady-block =

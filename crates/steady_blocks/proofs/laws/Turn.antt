@@ -9,6 +9,7 @@ use lib.Dec.{eqb, lit≤}
 use lib.ListN.{length, getD, set, take, drop, length-set}
 use lib.Ieee.{Float}
 use borrow.Author.Tests.{eqb-true, eqb-false}
+use Rattle.recordings.specs.Recordings.{Recordings}
 use Rattle.limits.specs.Limits.{blockFramesMost, channelsMost}
 use Rattle.laws.proofs.laws.Loop.{upto-turn, upto-holds}
 use Rattle.laws.specs.Pieces.{pieces, begun}
@@ -39,15 +40,15 @@ still-long : (h : Head) (k : ℕ) (places : List ℕ) → length (stillPlaces h 
 unfolding stillPlaces
 still-long h k places = upto-holds (λ i x. length x ≡ length places) (λ j p. advanced (chunkFrames h j) (framed (chunkFrames h j) p)) k places refl (λ j b x e. advanced-long (chunkFrames h j) (framed (chunkFrames h j) x) ∙ framed-long (chunkFrames h j) x ∙ e)
 
-length-mixed : (channels n : ℕ) (c : Chunk) (samples : List Float) → length (mixedSamples channels n c samples) ≡ n * channels
+length-mixed : (channels n : ℕ) (c : Chunk) (samples : Recordings) → length (mixedSamples channels n c samples) ≡ n * channels
 unfolding mixedSamples
 length-mixed channels n c samples = length-pieces (λ i. channelsOf channels (clamped (mixedFrame c samples i))) channels n (λ i l. length-channels channels (clamped (mixedFrame c samples i)))
 
 -- chunk k of a block
-abbrev pub stillPiece : Head → List ℕ → List Float → List Float → List Float → ℕ → List Float
+abbrev pub stillPiece : Head → List ℕ → List Float → List Float → Recordings → ℕ → List Float
 stillPiece h places levels amplitudes samples k = stillChunk h levels amplitudes samples k (stillPlaces h k places)
 
-module _ (h : Head) (places : List ℕ) (levels amplitudes samples : List Float) where
+module _ (h : Head) (places : List ℕ) (levels amplitudes : List Float) (samples : Recordings) where
   length-piece : (k : ℕ) → length (stillPiece h places levels amplitudes samples k) ≡ chunkFrames h k * h .channels
   unfolding stillChunk
   length-piece k = length-mixed (h .channels) (chunkFrames h k) (chunkFrom (framed (chunkFrames h k) (stillPlaces h k places)) levels amplitudes) samples
@@ -58,7 +59,7 @@ module _ (h : Head) (places : List ℕ) (levels amplitudes samples : List Float)
 
 -- ---- a turn
 
-module _ {h : Head} {places : List ℕ} {levels amplitudes samples : List Float} {clocks : Clocks} (ok : StillOk h places levels amplitudes samples clocks) {k count : ℕ} (l : k < count) (all : count ≡ chunkCount h) where
+module _ {h : Head} {places : List ℕ} {levels amplitudes : List Float} {samples : Recordings} {clocks : Clocks} (ok : StillOk h places levels amplitudes samples clocks) {k count : ℕ} (l : k < count) (all : count ≡ chunkCount h) where
   inside : k < chunkCount h
   inside = subst (λ (n : ℕ). k < n) all l
 

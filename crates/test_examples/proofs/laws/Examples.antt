@@ -4,6 +4,7 @@ use mathlib.Core.List.{List, [], _∷_}
 use lib.Dec.{T, eqb, eqb→eq}
 use lib.Ieee.Fits.{and-l, and-r}
 use lib.Ieee.{toUnsigned, eq, ofBits, round, add, sub, mul, div, lt, le, neg, ofInt, toBits}
+use Rattle.recordings.specs.Recordings.{recording}
 use Rattle.laws.specs.Count.{counted}
 use Rattle.laws.specs.Loop.{upto, downto, changed}
 use Rattle.laws.specs.Pieces.{pieces, begun, putAt}
@@ -48,5 +49,5 @@ agree-by-test [] t = tt
 agree-by-test (r ∷ rest) t = (eqb→eq (r .given) (r .said) (and-l (eqb (r .given) (r .said)) (agrees rest) t), agree-by-test rest (and-r (eqb (r .given) (r .said)) (agrees rest) t))
 
 pub examples-agree : Agree rows
-unfolding rows toUnsigned stateNumber counted eq ofBits round zerosOf zeroFrames upto downto changed pieces begun putAt interpolate narrowed narrowedBits nearestQuotient nanosFromSecs secsFromMillis admitted entryBelow restAbove lineAt curve amplitude clocksUpdated whenToStart ticksOf fractionOf timeOf takenWithin taken updated asTicksPerSecond allowedSpeed isImmediate delayLeft afterDelay atClockTime startTimeUpdate powiFrom powi inOutPowi easingApply tweenValue interpolated parameterNew interpolatedValue parameterSet isNow startedAt tweenStart withState tweenMove tweenUpdateIn tweenUpdate valueIn newRawValue withPrevious withNewValue parameterUpdate isAdvancing isStopped playbackNew interpolatedFadeVolume playbackPause resumed resumedAt playbackResume afterFade waitedUntil waitingUpdate stateUpdate playbackUpdate volumeOf kindOf clockTimeOf startTimeOf easingOf headOf clockOf trackOf sendOf routeOf soundOf orderOf filled sceneOf speedOf added scaled clamp clamped frameAt putFrame addedFrom addedScaled amountAt levelAmplitude trackAmplitude soundFrame addedSound withSounds overSubTracks trackFrame withRoutes withTrackSends trackScaled onSends withRoutesFrom sendFrame levelScaled addedSend sendInput tracksFrame mixedFrame tracksSet withSendTracks mixedSet trackNew trackMoved trackStill trackUpdate trackSet trackPause trackResume emptyTrack emptyParameter emptyClock clocksNew tracksNew sendsNew routesNew mixerNew liveAbove trackStep tracksUpdate updatedWhere routeUpdate routesUpdate sendsUpdate mixerUpdate kindNumber isKindFor foundAfter lastIsAfter dropped counts tweenOf resumeTweenOf mapTrack withSend-mixer mapRoute mapMain orderedBy resumedBy orderStep resumeStep mixerOrdered playedMore playedAfter playedOn soundsPlayed levelOf chunkTrack chunkRoute chunkSound emptyLevel emptyTrackRow emptyRouteRow emptySoundRow chunkTracks chunkSends chunkRoutes chunkSounds chunkOf chunkCount chunkFrames inChunk chunkDone chunksDone blockDone mixerAt channelAt channelsOf chunkSamples blockSamples rendered add sub mul div lt le neg ofInt toBits sampleFrame sumOver withSubSends secondDifference correctionAt curveAt
+unfolding rows toUnsigned stateNumber counted eq ofBits round zerosOf zeroFrames upto downto changed pieces begun putAt interpolate narrowed narrowedBits nearestQuotient nanosFromSecs secsFromMillis admitted entryBelow restAbove lineAt curve amplitude clocksUpdated whenToStart ticksOf fractionOf timeOf takenWithin taken updated asTicksPerSecond allowedSpeed isImmediate delayLeft afterDelay atClockTime startTimeUpdate powiFrom powi inOutPowi easingApply tweenValue interpolated parameterNew interpolatedValue parameterSet isNow startedAt tweenStart withState tweenMove tweenUpdateIn tweenUpdate valueIn newRawValue withPrevious withNewValue parameterUpdate isAdvancing isStopped playbackNew interpolatedFadeVolume playbackPause resumed resumedAt playbackResume afterFade waitedUntil waitingUpdate stateUpdate playbackUpdate volumeOf kindOf clockTimeOf startTimeOf easingOf headOf clockOf trackOf sendOf routeOf soundOf orderOf filled sceneOf speedOf added scaled clamp clamped frameAt putFrame addedFrom addedScaled amountAt levelAmplitude trackAmplitude soundFrame addedSound withSounds overSubTracks trackFrame withRoutes withTrackSends trackScaled onSends withRoutesFrom sendFrame levelScaled addedSend sendInput tracksFrame mixedFrame tracksSet withSendTracks mixedSet trackNew trackMoved trackStill trackUpdate trackSet trackPause trackResume emptyTrack emptyParameter emptyClock clocksNew tracksNew sendsNew routesNew mixerNew liveAbove trackStep tracksUpdate updatedWhere routeUpdate routesUpdate sendsUpdate mixerUpdate kindNumber isKindFor foundAfter lastIsAfter dropped counts tweenOf resumeTweenOf mapTrack withSend-mixer mapRoute mapMain orderedBy resumedBy orderStep resumeStep mixerOrdered playedMore playedAfter playedOn soundsPlayed levelOf chunkTrack chunkRoute chunkSound emptyLevel emptyTrackRow emptyRouteRow emptySoundRow chunkTracks chunkSends chunkRoutes chunkSounds chunkOf chunkCount chunkFrames inChunk chunkDone chunksDone blockDone mixerAt channelAt channelsOf chunkSamples blockSamples rendered add sub mul div lt le neg ofInt toBits sampleFrame sumOver withSubSends secondDifference correctionAt curveAt recording
 examples-agree = agree-by-test rows tt

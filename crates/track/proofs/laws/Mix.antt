@@ -7,6 +7,7 @@ use native.Mathlib.Nat.{le-refl}
 use native.Mathlib.Omega.{arith}
 use lib.ListN.{length, replicate, length-replicate}
 use lib.Ieee.{Float}
+use Rattle.recordings.specs.Recordings.{Recordings}
 use Rattle.limits.specs.Limits.{sendLines, chunkFramesMost, trackDepth}
 use Rattle.laws.proofs.laws.Loop.{downto-cong}
 use Rattle.frame.specs.declared.frame.Frame.{Frame}
@@ -22,14 +23,14 @@ use Rattle.frame.proofs.laws.Layout.{Step, first-cong, first-twice, silent-at}
 use Rattle.track.proofs.laws.Send.{SendStep, onSends-at}
 use Rattle.track.proofs.laws.Sub.{subSum}
 
-pub tracks-mixed : (c : Chunk) (samples l : List Float) {last : List Float} → 2 * c .frames ≤ length l → last ≡ withFrames (scratch 0 (c .frames)) (subSum trackDepth c samples 0) (withFrames (scratch 0 (c .frames)) cleared l) → last ≡ withFrames (scratch 0 (c .frames)) (tracksSet c samples) l
+pub tracks-mixed : (c : Chunk) (samples : Recordings) (l : List Float) {last : List Float} → 2 * c .frames ≤ length l → last ≡ withFrames (scratch 0 (c .frames)) (subSum trackDepth c samples 0) (withFrames (scratch 0 (c .frames)) cleared l) → last ≡ withFrames (scratch 0 (c .frames)) (tracksSet c samples) l
 unfolding tracksSet tracksFrame
 tracks-mixed c samples l w e =
     let n = c .frames in
     e ∙ first-twice (scratch 0 n) cleared (subSum trackDepth c samples 0) n l (le-refl n) (omega (arith, w))
     ∙ first-cong (scratch 0 n) (λ i a. subSum trackDepth c samples 0 i zeroFrame) (tracksSet c samples) n l (λ k p a. refl)
 
-module _ (c : Chunk) (samples inputs : List Float) (short : c .frames ≤ chunkFramesMost) (is : inputs ≡ onSends (c .frames) (withSubSends trackDepth c samples 0) (replicate sendPlaces zeroSample)) where
+module _ (c : Chunk) (samples : Recordings) (inputs : List Float) (short : c .frames ≤ chunkFramesMost) (is : inputs ≡ onSends (c .frames) (withSubSends trackDepth c samples 0) (replicate sendPlaces zeroSample)) where
   pub input-at : (s i : ℕ) → s < sendLines → i < c .frames → frameAt (sendLayout s (c .frames)) inputs i ≡ sendInput c samples (suc s) i
   unfolding sendInput
   input-at s i h p =

@@ -10,6 +10,7 @@ use lib.Dec.{T}
 use lib.ListN.{length, replicate}
 use lib.Ieee.{Float, binary32, add, fits, ofInt}
 use lib.Ieee.Fits.{add-fits, mul-fits}
+use Rattle.recordings.specs.Recordings.{Recordings}
 use Rattle.decibels.specs.declared.decibels.Amplitude.{Amplitude}
 use Rattle.laws.specs.Float.{posZero}
 use Rattle.laws.proofs.laws.Float.{Zero, positive-zero}
@@ -66,7 +67,7 @@ pub running-added : {x t : Frame} → Both Running x → Both Fits t → Both Ru
 running-added r f = both-added Running (λ x y p q. (add-fits binary32 x y, never-negZero binary32 x y (p .0) q (p .1))) r f
 
 -- a track's frame fits f32: it is scaled, or zeros
-pub track-fits : (d : ℕ) (c : Chunk) (samples : List Float) (line i : ℕ) → Both Fits (trackFrame d c samples line i)
+pub track-fits : (d : ℕ) (c : Chunk) (samples : Recordings) (line i : ℕ) → Both Fits (trackFrame d c samples line i)
 unfolding trackFrame
 track-fits zero c samples line i = both-zero Fits (posZero-fits binary32)
 track-fits (suc d) c samples line i =
@@ -90,7 +91,7 @@ module _ (n : ℕ) (l : List Float) {last : List Float} (long : 2 * n ≤ length
   pub running-cleared : last ≡ withFrames (scratch 0 n) cleared l → AllRunning n last
   running-cleared e i p = subst (Both Running) (sym (after cleared i p e)) running-zero
 
-  pub running-track : (d : ℕ) (c : Chunk) (samples : List Float) (line : ℕ) → AllRunning n l → last ≡ withFrames (scratch 0 n) (addedFrom (trackFrame d c samples line)) l → AllRunning n last
+  pub running-track : (d : ℕ) (c : Chunk) (samples : Recordings) (line : ℕ) → AllRunning n l → last ≡ withFrames (scratch 0 n) (addedFrom (trackFrame d c samples line)) l → AllRunning n last
   unfolding addedFrom
   running-track d c samples line r e i p =
       subst (Both Running) (sym (after (addedFrom (trackFrame d c samples line)) i p e)) (running-added (r i p) (track-fits d c samples line i))

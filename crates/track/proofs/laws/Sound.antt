@@ -7,6 +7,7 @@ use Prim.Native.Nat.{ℕ, _+_, _*_, _≤_}
 use lib.Dec.{ltb}
 use lib.ListN.{length}
 use lib.Ieee.{Float}
+use Rattle.recordings.specs.Recordings.{Recordings, recording}
 use Rattle.laws.proofs.laws.Choice.{picks-lt, leaves-lt}
 use Rattle.laws.proofs.laws.FloatRound.{below-or-not}
 use Rattle.frame.specs.Frame.{zeroFrame, added, sampleFrame}
@@ -17,12 +18,12 @@ use Rattle.sound.specs.Part.{remainingPart, partFrame, addedPart}
 use Rattle.sound.proofs.laws.Part.{part-frames, part-at}
 use Rattle.track.specs.Sound.{soundFrame, addedSound}
 
-module _ (samples : List Float) (s : ChunkSound) (held : 2 * (s .start + s .left) ≤ length samples) where
+module _ (samples : Recordings) (s : ChunkSound) (held : 2 * (s .start + s .left) ≤ length (recording samples (s .from))) where
   part-plays-sound : (i : ℕ) → partFrame (remainingPart samples s) i ≡ soundFrame samples s i
   unfolding partFrame soundFrame
   part-plays-sound i =
       let part = remainingPart samples s in
-      let there = sampleFrame samples (s .start + i) in
+      let there = sampleFrame (recording samples (s .from)) (s .start + i) in
       ap (λ (n : ℕ). cond (ltb i n) (sampleFrame part i) zeroFrame) (part-frames samples s held)
       ∙ elim (below-or-not i (s .left)) [
         | inl b ↦ picks-lt i (s .left) (sampleFrame part i) zeroFrame b ∙ part-at samples s held i b ∙ sym (picks-lt i (s .left) there zeroFrame b)

@@ -10,6 +10,7 @@ use borrow.Author.Tests.{eq-eqb, ne-eqb}
 use lib.Dec.{eqb}
 use lib.ListN.{length}
 use lib.Ieee.{Float}
+use Rattle.recordings.specs.Recordings.{Recordings}
 use Rattle.limits.specs.Limits.{sendLines, chunkFramesMost}
 use Rattle.laws.proofs.laws.Choice.{cond-true, cond-false}
 use Rattle.laws.specs.Loop.{upto, downto}
@@ -52,20 +53,20 @@ routes-done c line frames l = refl
 
 -- ---- the tracks below
 
-abbrev pub subStep : ℕ → Chunk → List Float → ℕ → ℕ → Step
+abbrev pub subStep : ℕ → Chunk → Recordings → ℕ → ℕ → Step
 subStep d c samples line j i x = cond (eqb (trackRow c j .parent) line) (added x (trackFrame d c samples (suc j) i)) x
 
-abbrev pub subSend : ℕ → Chunk → List Float → ℕ → ℕ → ℕ × ℕ → Frame → Frame
+abbrev pub subSend : ℕ → Chunk → Recordings → ℕ → ℕ → ℕ × ℕ → Frame → Frame
 subSend d c samples line j p x = cond (eqb (trackRow c j .parent) line) (withTrackSends d c samples (suc j) (p .0) (p .1) x) x
 
 -- all of them, as one step
-abbrev pub subSum : ℕ → Chunk → List Float → ℕ → Step
+abbrev pub subSum : ℕ → Chunk → Recordings → ℕ → Step
 subSum d c samples line i a = overSubTracks c line (λ below x. added x (trackFrame d c samples below i)) a
 
 line-of : (j : ℕ) → 0 < j → j ≡ suc (j - 1)
 line-of j h = omega arith
 
-module _ (d : ℕ) (c : Chunk) (samples : List Float) (line j : ℕ) (l : List Float) where
+module _ (d : ℕ) (c : Chunk) (samples : Recordings) (line j : ℕ) (l : List Float) where
   pub sub-taken : 0 < j → trackRow c (j - 1) .parent ≡ line → withFrames (scratch 0 (c .frames)) (addedFrom (trackFrame d c samples j)) l ≡ withFrames (scratch 0 (c .frames)) (subStep d c samples line (j - 1)) l
   unfolding addedFrom
   sub-taken h e =
@@ -78,7 +79,7 @@ module _ (d : ℕ) (c : Chunk) (samples : List Float) (line j : ℕ) (l : List F
       ∙ sym (step-picked (allSends (c .frames)) (trackRow c (j - 1) .parent) line (λ p x. withTrackSends d c samples (suc (j - 1)) (p .0) (p .1) x) l e)
 
 -- a track that stands below another one is passed over
-module _ (d : ℕ) (c : Chunk) (samples : List Float) (line k : ℕ) (e : trackRow c k .parent ≡ line → ⊥) (l : List Float) where
+module _ (d : ℕ) (c : Chunk) (samples : Recordings) (line k : ℕ) (e : trackRow c k .parent ≡ line → ⊥) (l : List Float) where
   pub sub-left : withFrames (scratch 0 (c .frames)) (subStep d c samples line k) l ≡ l
   unfolding addedFrom
   sub-left = step-left (withFrames (scratch 0 (c .frames))) (trackRow c k .parent) line (addedFrom (trackFrame d c samples (suc k))) l (frames-steps (scratch 0 (c .frames))) e
@@ -88,7 +89,7 @@ module _ (d : ℕ) (c : Chunk) (samples : List Float) (line k : ℕ) (e : trackR
       ap (λ (b : Bool). onSends (c .frames) (λ s i x. cond b (withTrackSends d c samples (suc k) s i x) x) l) (ne-eqb (trackRow c k .parent) line e)
       ∙ onSends-same (c .frames) (λ s i a. a) l (λ s i a. refl)
 
-module _ (d : ℕ) (c : Chunk) (samples : List Float) (line : ℕ) (l : List Float) where
+module _ (d : ℕ) (c : Chunk) (samples : Recordings) (line : ℕ) (l : List Float) where
   pub sub-done : withFrames (scratch 0 (c .frames)) (λ i a. downto (λ j x. subStep d c samples line j i x) (c .«track_count») a) l ≡ withFrames (scratch 0 (c .frames)) (subSum d c samples line) l
   unfolding overSubTracks
   sub-done = refl
@@ -100,7 +101,7 @@ module _ (d : ℕ) (c : Chunk) (samples : List Float) (line : ℕ) (l : List Flo
 -- ---- a whole track
 
 -- from zeros, the tracks below it and its sounds
-pub sum-gathered : (d : ℕ) (c : Chunk) (samples : List Float) (line : ℕ) (l : List Float) {under last : List Float} → 2 * c .frames ≤ length l → AllZero (c .frames) l → under ≡ withFrames (scratch 0 (c .frames)) (subSum d c samples line) l → last ≡ withFrames (scratch 0 (c .frames)) (withSounds c samples line) under → last ≡ withFrames (scratch 0 (c .frames)) (sumSet d c samples line) l
+pub sum-gathered : (d : ℕ) (c : Chunk) (samples : Recordings) (line : ℕ) (l : List Float) {under last : List Float} → 2 * c .frames ≤ length l → AllZero (c .frames) l → under ≡ withFrames (scratch 0 (c .frames)) (subSum d c samples line) l → last ≡ withFrames (scratch 0 (c .frames)) (withSounds c samples line) under → last ≡ withFrames (scratch 0 (c .frames)) (sumSet d c samples line) l
 unfolding sumSet sumOver
 sum-gathered d c samples line l w zero a e =
     let n = c .frames in
@@ -113,16 +114,16 @@ sum-gathered d c samples line l w zero a e =
     ∙ first-cong-at L (λ k x. s k (u k x)) (sumSet d c samples line) n l (le-refl n) (λ k p. ap (λ (x : Frame). s k (u k x)) (zero k p))
 
 -- the buffer has the track's frames
-abbrev pub HasTrack : ℕ → Chunk → List Float → ℕ → List Float → Type 0
+abbrev pub HasTrack : ℕ → Chunk → Recordings → ℕ → List Float → Type 0
 HasTrack depth c samples line out = (i : ℕ) → i < c .frames → frameAt (scratch 0 (c .frames)) out i ≡ trackFrame depth c samples line i
 
-pub track-added : (depth : ℕ) (c : Chunk) (samples : List Float) (line : ℕ) (l out : List Float) {last : List Float} → HasTrack depth c samples line out → last ≡ withFrames (scratch 0 (c .frames)) (addedFrom (frameAt (scratch 0 (c .frames)) out)) l → last ≡ withFrames (scratch 0 (c .frames)) (addedFrom (trackFrame depth c samples line)) l
+pub track-added : (depth : ℕ) (c : Chunk) (samples : Recordings) (line : ℕ) (l out : List Float) {last : List Float} → HasTrack depth c samples line out → last ≡ withFrames (scratch 0 (c .frames)) (addedFrom (frameAt (scratch 0 (c .frames)) out)) l → last ≡ withFrames (scratch 0 (c .frames)) (addedFrom (trackFrame depth c samples line)) l
 unfolding addedFrom
 track-added depth c samples line l out has e =
     let L = scratch 0 (c .frames) in
     e ∙ first-cong L (addedFrom (frameAt L out)) (addedFrom (trackFrame depth c samples line)) (c .frames) l (λ k p a. ap (added a) (has k p))
 
-module _ (depth d : ℕ) (c : Chunk) (samples : List Float) (line : ℕ) (deep : depth ≡ suc d) where
+module _ (depth d : ℕ) (c : Chunk) (samples : Recordings) (line : ℕ) (deep : depth ≡ suc d) where
   -- its sum, and volume times fade
   pub track-mixed : (l : List Float) {sum last : List Float} → 2 * c .frames ≤ length l → trackRow c (line - 1) .advancing ≡ true → sum ≡ withFrames (scratch 0 (c .frames)) (sumSet d c samples line) l → last ≡ withFrames (scratch 0 (c .frames)) (trackScaled (trackRow c (line - 1)) (c .frames)) sum → HasTrack depth c samples line last
   unfolding trackFrame trackScaled sumSet
@@ -137,7 +138,7 @@ module _ (depth d : ℕ) (c : Chunk) (samples : List Float) (line : ℕ) (deep :
       ∙ sym (cond-true (track .advancing) (scaled (trackSum d c samples line i) (trackAmplitude track (amountAt i n))) zeroFrame moves)
       ∙ ap (λ (z : ℕ). trackFrame z c samples line i) (sym deep)
 
-module _ (depth d : ℕ) (c : Chunk) (samples : List Float) (line : ℕ) (l : List Float) (deep : depth ≡ suc d) where
+module _ (depth d : ℕ) (c : Chunk) (samples : Recordings) (line : ℕ) (l : List Float) (deep : depth ≡ suc d) where
   pub track-stopped : AllRunning (c .frames) l → trackRow c (line - 1) .advancing ≡ false → l ≡ withFrames (scratch 0 (c .frames)) (addedFrom (trackFrame depth c samples line)) l
   unfolding addedFrom trackFrame
   track-stopped run stops =
@@ -170,7 +171,7 @@ module _ (depth d : ℕ) (c : Chunk) (samples : List Float) (line : ℕ) (l : Li
       (λ s i x. cond-false (trackRow c (line - 1) .advancing) (withRoutes c line s (trackFrame (suc d) c samples line i) (withSubSends d c samples line s i x)) x stops))
       ∙ ap (λ (y : ℕ). onSends (c .frames) (withTrackSends y c samples line) l) (sym deep)
 
-module _ (depth : ℕ) (c : Chunk) (samples : List Float) (line : ℕ) (l : List Float) (flat : depth ≡ 0) where
+module _ (depth : ℕ) (c : Chunk) (samples : Recordings) (line : ℕ) (l : List Float) (flat : depth ≡ 0) where
   pub track-none : AllRunning (c .frames) l → l ≡ withFrames (scratch 0 (c .frames)) (addedFrom (trackFrame depth c samples line)) l
   unfolding addedFrom trackFrame
   track-none run =

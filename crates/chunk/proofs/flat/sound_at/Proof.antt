@@ -32,10 +32,19 @@ mul-t16 c = search needs
 element-copy-out-t19 : tie.Need-element-copy-out-t19
 element-copy-out-t19 c = search needs
 
+add-t20 : tie.Need-add-t20
+add-t20 c = search needs
+
+mul-t21 : tie.Need-mul-t21
+mul-t21 c = search needs
+
+element-copy-out-t24 : tie.Need-element-copy-out-t24
+element-copy-out-t24 c = search needs
+
 returns : tie.Need-returns
 unfolding soundFrom
 returns c =
-    let start = c .before .before .before in
+    let start = c .before .before .before .before in
     sym (sound-from (start .args .places .now) (start .args .levels .now) (start .args .amplitudes .now) (start .args .k) (start .pre))
 
 pub sound-at-spec : {M : Type 1} → statement M
@@ -51,4 +60,7 @@ sound-at-spec =
     add-t15
     mul-t16
     element-copy-out-t19
+    add-t20
+    mul-t21
+    element-copy-out-t24
     returns)

@@ -1,6 +1,7 @@
 -- `put_render` meets its contract: what is printed is what the scene renders to. Assumes nothing.
 use mathlib.Core.Path.{ap}
 use borrow.Author.Needs.{needs}
+use Rattle.recordings.specs.Recordings.{recordings}
 use Rattle.text_output.proofs.laws.Print.{same-text}
 use Rattle.render_files.specs.Program.{printedOutput}
 use Rattle.render_files.proofs.laws.Program.{render-again}
@@ -36,11 +37,11 @@ same-length c = search needs
 
 returns : tie.Need-returns
 returns c =
-    let start = c .before .before .before .before .before .before .before .before .before .before .before in
+    let start = c .before .before .before .before .before .before .before .before .before .before .before .before in
     let args = start .args in
     let call = c .before .before .before .before .before .before .render in
     same-text (args .text .now)
-    (ap (printedOutput (args .width)) (render-again (args .file .now) (args .samples .now) (args .output .now) (call .last .1 .1 .0) _ (args .count) (start .pre .1 .0 .1) (start .pre .1 .1) (call .ensures .1 .0) (call .kept .1 .1 .0)))
+    (ap (printedOutput (args .width)) (render-again (args .file .now) (recordings (args .samples .now) (args .visitor .now)) (args .output .now) (call .last .1 .1 .1 .0) _ (args .count) (start .pre .1 .0 .1) (start .pre .1 .1) (call .ensures .1 .0) (call .kept .1 .1 .1 .0)))
     (c .put-output .ensures)
 
 pub put-render-spec : {M : Type 1} → statement M

@@ -22,6 +22,12 @@ at-requires-3 c κs = search needs
 natural-of-requires-3 : tie.Need-natural-of-requires-3
 natural-of-requires-3 c κs = search needs
 
+at-requires-4 : tie.Need-at-requires-4
+at-requires-4 c κs = search needs
+
+natural-of-requires-4 : tie.Need-natural-of-requires-4
+natural-of-requires-4 c κs = search needs
+
 returns : tie.Need-returns
 returns c = search (sound-is, needs)
 
@@ -35,4 +41,6 @@ sound-line-of-spec =
     natural-of-requires-2
     at-requires-3
     natural-of-requires-3
+    at-requires-4
+    natural-of-requires-4
     returns)

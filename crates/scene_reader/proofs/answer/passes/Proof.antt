@@ -2,7 +2,7 @@
 use borrow.Author.Needs.{needs}
 use native.Mathlib.Omega.{arith}
 use lib.Dec.{lit<}
-use Rattle.scene_tables.specs.Tables.{tracks, routes, sounds}
+use Rattle.scene_tables.specs.Tables.{tracks, routes}
 use Rattle.scene_reader.proofs.laws.Answer.{low-at, by-blocks, byPlaces, passes-at}
 use Rattle.scene_reader.proofs.answer.passes.Statement.{statement}
 use Rattle.scene_reader.proofs.answer.passes.Tie as tie
@@ -37,45 +37,31 @@ element-copy-out-routes-fit-2 c = search needs
 routes-fit-requires : tie.Need-routes-fit-requires
 routes-fit-requires c κs = search (low-at routes (lit< tt), needs)
 
-element-copy-out-sounds-pass : tie.Need-element-copy-out-sounds-pass
-element-copy-out-sounds-pass c = search needs
-
-element-copy-out-sounds-pass-2 : tie.Need-element-copy-out-sounds-pass-2
-element-copy-out-sounds-pass-2 c = search needs
-
-sounds-pass-requires : tie.Need-sounds-pass-requires
-sounds-pass-requires c κs = search (low-at sounds (lit< tt), needs)
-
-samples-ok-requires : tie.Need-samples-ok-requires
-samples-ok-requires c κs = search needs
-
 returns : tie.Need-returns
 unfolding byPlaces
-returns c = passes-at _ _ _ _ _ 0 _ _ (omega arith) (search needs)
+returns c = passes-at _ _ _ _ _ _ 0 _ _ (omega arith) (search needs)
 
 returns-2 : tie.Need-returns-2
 unfolding byPlaces
-returns-2 c = passes-at _ _ _ _ _ 1 _ _ (omega arith) (search (by-blocks, needs))
+returns-2 c = passes-at _ _ _ _ _ _ 1 _ _ (omega arith) (search (by-blocks, needs))
 
 returns-3 : tie.Need-returns-3
 unfolding byPlaces
-returns-3 c = passes-at _ _ _ _ _ 2 _ _ (omega arith) (search needs)
+returns-3 c = passes-at _ _ _ _ _ _ 2 _ _ (omega arith) (search needs)
 
 returns-4 : tie.Need-returns-4
 unfolding byPlaces
-returns-4 c = passes-at _ _ _ _ _ 3 _ _ (omega arith) (search needs)
+returns-4 c = passes-at _ _ _ _ _ _ 3 _ _ (omega arith) (search needs)
 
 returns-5 : tie.Need-returns-5
 unfolding byPlaces
-returns-5 c = passes-at _ _ _ _ _ 4 _ _ (omega arith) (search needs)
+returns-5 c = passes-at _ _ _ _ _ _ 4 _ _ (omega arith) (search needs)
+
+samples-pass-requires : tie.Need-samples-pass-requires
+samples-pass-requires c κs = (search needs, (omega arith, search needs))
 
 returns-6 : tie.Need-returns-6
-unfolding byPlaces
-returns-6 c = passes-at _ _ _ _ _ 5 _ _ (omega arith) (search needs)
-
-returns-7 : tie.Need-returns-7
-unfolding byPlaces
-returns-7 c = passes-at _ _ _ _ _ 6 _ _ (omega arith) (search needs)
+returns-6 c = search needs
 
 pub passes-spec : {M : Type 1} → statement M
 passes-spec =
@@ -91,14 +77,10 @@ passes-spec =
     element-copy-out-routes-fit
     element-copy-out-routes-fit-2
     routes-fit-requires
-    element-copy-out-sounds-pass
-    element-copy-out-sounds-pass-2
-    sounds-pass-requires
-    samples-ok-requires
+    samples-pass-requires
     returns
     returns-2
     returns-3
     returns-4
     returns-5
-    returns-6
-    returns-7)
+    returns-6)

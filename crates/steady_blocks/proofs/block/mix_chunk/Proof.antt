@@ -7,13 +7,13 @@ use Rattle.steady_blocks.proofs.block.mix_chunk.Tie as tie
 
 process-flat-requires : tie.Need-process-flat-requires
 process-flat-requires c κs =
-    let start = c .before .before .before .before in
+    let start = c .before .before .before .before .before in
     let chosen = cond-true (start .args .ends) (start .args .last .now) (start .args .full .now) (c .before .if1 .taken) in
     (start .pre .0, (start .pre .1 .0, (sym chosen ∙ start .pre .1 .1 .0, start .pre .1 .1 .1)))
 
 process-flat-requires-2 : tie.Need-process-flat-requires-2
 process-flat-requires-2 c κs =
-    let start = c .before .before .before .before in
+    let start = c .before .before .before .before .before in
     let chosen = cond-false (start .args .ends) (start .args .last .now) (start .args .full .now) (c .before .if1 .left) in
     (start .pre .0, (start .pre .1 .0, (sym chosen ∙ start .pre .1 .1 .0, start .pre .1 .1 .1)))
 

@@ -6,6 +6,7 @@ use native.Mathlib.Omega.{arith}
 use lib.ListN.{length}
 use borrow.Author.Needs.{needs}
 use borrow.Rule.Slice.PartMut.{same-len-mid}
+use Rattle.recordings.specs.Recordings.{recordings}
 use Rattle.laws.proofs.laws.Loop.{upto-zero}
 use Rattle.laws.specs.Pieces.{pieces, begun}
 use Rattle.laws.proofs.laws.Pieces.{length-part, begun-zero}
@@ -17,16 +18,16 @@ use Rattle.steady_blocks.proofs.block.steady_block.Statement.{statement
 use Rattle.steady_blocks.proofs.block.steady_block.Tie as tie
 
 abbrev Inv-loop : tie.InvT-loop
-Inv-loop places₀ levels amplitudes head samples table full last out₀ channels count moved₀ k₀ places out moved k =
-    (k ≤ count) × (length out ≡ length out₀) × (places ≡ stillPlaces head k places₀) × (moved ≡ stillClocks head k moved₀) × (out ≡ begun (pieces (stillPiece head places₀ levels amplitudes samples) k) out₀)
+Inv-loop places₀ levels amplitudes head samples visitor table full last out₀ channels count moved₀ k₀ places out moved k =
+    (k ≤ count) × (length out ≡ length out₀) × (places ≡ stillPlaces head k places₀) × (moved ≡ stillClocks head k moved₀) × (out ≡ begun (pieces (stillPiece head places₀ levels amplitudes (recordings samples visitor)) k) out₀)
 
 abbrev μ-loop : tie.MeasureT-loop
-μ-loop places₀ levels amplitudes head samples table full last out₀ channels count moved₀ k₀ places out moved k =
+μ-loop places₀ levels amplitudes head samples visitor table full last out₀ channels count moved₀ k₀ places out moved k =
     count - k
 
 chunk-count-requires : tie.Need-chunk-count-requires Inv-loop μ-loop
 chunk-count-requires c κs =
-    let ok = c .before .before .pre .1 .0 in
+    let ok = c .before .before .before .pre .1 .0 in
     (ok .buffer .0, ok .buffer .1, ok .block)
 
 loop-holds : tie.Need-loop-holds Inv-loop μ-loop
@@ -36,7 +37,7 @@ loop-holds c = (search needs, refl, sym (upto-zero _ _), sym (upto-zero _ _), be
 chunk-frames-requires : tie.Need-chunk-frames-requires Inv-loop μ-loop
 chunk-frames-requires c κs =
     let l = c .before in
-    let start = l .before .before .before .before in
+    let start = l .before .before .before .before .before in
     let ok = start .pre .1 .0 in
     let test = c .loop-test .taken in
     let all = l .before .chunk-count .ensures in
@@ -45,7 +46,7 @@ chunk-frames-requires c κs =
 mul-from : tie.Need-mul-from Inv-loop μ-loop
 mul-from c =
     let l = c .before .before .before in
-    let start = l .before .before .before .before in
+    let start = l .before .before .before .before .before in
     let ok = start .pre .1 .0 in
     let test = c .before .before .loop-test .taken in
     let all = l .before .chunk-count .ensures in
@@ -54,7 +55,7 @@ mul-from c =
 mul-from-2 : tie.Need-mul-from-2 Inv-loop μ-loop
 mul-from-2 c =
     let l = c .before .before .before in
-    let start = l .before .before .before .before in
+    let start = l .before .before .before .before .before in
     let ok = start .pre .1 .0 in
     let test = c .before .before .loop-test .taken in
     let all = l .before .chunk-count .ensures in
@@ -63,7 +64,7 @@ mul-from-2 c =
 mul-to : tie.Need-mul-to Inv-loop μ-loop
 mul-to c =
     let l = c .before .before .before in
-    let start = l .before .before .before .before in
+    let start = l .before .before .before .before .before in
     let ok = start .pre .1 .0 in
     let test = c .before .before .loop-test .taken in
     let all = l .before .chunk-count .ensures in
@@ -73,7 +74,7 @@ mul-to c =
 add-to : tie.Need-add-to Inv-loop μ-loop
 add-to c =
     let l = c .before .before .before in
-    let start = l .before .before .before .before in
+    let start = l .before .before .before .before .before in
     let ok = start .pre .1 .0 in
     let test = c .before .before .loop-test .taken in
     let all = l .before .chunk-count .ensures in
@@ -86,7 +87,7 @@ add-ends c = search needs
 mul-steady-chunk : tie.Need-mul-steady-chunk Inv-loop μ-loop
 mul-steady-chunk c =
     let l = c .before .before .before .before in
-    let start = l .before .before .before .before in
+    let start = l .before .before .before .before .before in
     let ok = start .pre .1 .0 in
     let test = c .before .before .before .loop-test .taken in
     let all = l .before .chunk-count .ensures in
@@ -102,7 +103,7 @@ part-steady-chunk-start c = search needs
 part-steady-chunk-end : tie.Need-part-steady-chunk-end Inv-loop μ-loop
 part-steady-chunk-end c =
     let l = c .before .before .before .before in
-    let start = l .before .before .before .before in
+    let start = l .before .before .before .before .before in
     let ok = start .pre .1 .0 in
     let test = c .before .before .before .loop-test .taken in
     let all = l .before .chunk-count .ensures in
@@ -112,7 +113,7 @@ part-steady-chunk-end c =
 steady-chunk-requires : tie.Need-steady-chunk-requires Inv-loop μ-loop
 steady-chunk-requires c κs =
     let l = c .before .before .before .before .before in
-    let start = l .before .before .before .before in
+    let start = l .before .before .before .before .before in
     let h = start .args .head in
     let ok = start .pre .1 .0 in
     let test = c .before .before .before .before .loop-test .taken in
@@ -128,7 +129,7 @@ steady-chunk-requires c κs =
 chunk-seconds-requires : tie.Need-chunk-seconds-requires Inv-loop μ-loop
 chunk-seconds-requires c κs =
     let l = c .before .before .before .before .before .before .before .before in
-    let start = l .before .before .before .before in
+    let start = l .before .before .before .before .before in
     let h = start .args .head in
     let ok = start .pre .1 .0 in
     let frames = c .before .before .before .before .before .before .chunk-frames in
@@ -137,7 +138,7 @@ chunk-seconds-requires c κs =
 update-requires : tie.Need-update-requires Inv-loop μ-loop
 update-requires c κs =
     let l = c .before .before .before .before .before .before .before .before .before in
-    let start = l .before .before .before .before in
+    let start = l .before .before .before .before .before in
     let ok = start .pre .1 .0 in
     let test = c .before .before .before .before .before .before .before .before .loop-test .taken in
     let all = l .before .chunk-count .ensures in
@@ -153,7 +154,7 @@ loop-less c = search needs
 loop-again : tie.Need-loop-again Inv-loop μ-loop
 loop-again c =
     let l = c .before .before .before .before .before .before .before .before .before .before in
-    let start = l .before .before .before .before in
+    let start = l .before .before .before .before .before in
     let h = start .args .head in
     let ok = start .pre .1 .0 in
     let test = c .before .before .before .before .before .before .before .before .before .loop-test .taken in
@@ -164,7 +165,7 @@ loop-again c =
     let e = l .loop .inv .2 in
     let done = c .before .before .before .before .steady-chunk in (
       omega (arith, test),
-      same-len-mid from (from + frames .result * h .channels - from) (l .loop .out) (done .last .1 .1 .1 .1 .1 .1 .1 .1 .1 .1 .0) (done .kept .1 .1 .1 .1 .1 .1 .1 .1 .1 .1 .0) ∙ l .loop .inv .1,
+      same-len-mid from (from + frames .result * h .channels - from) (l .loop .out) (done .last .1 .1 .1 .1 .1 .1 .1 .1 .1 .1 .1 .0) (done .kept .1 .1 .1 .1 .1 .1 .1 .1 .1 .1 .1 .0) ∙ l .loop .inv .1,
       places-turn ok test all is e (done .ensures .0),
       clocks-turn ok test all is (l .loop .inv .3) (c .before .chunk-seconds .ensures) (c .update .ensures),
       samples-turn ok test all is e (start .args .out .now) (l .loop .inv .4) (done .ensures .1),
@@ -176,13 +177,13 @@ same-length c = search needs
 returns : tie.Need-returns Inv-loop μ-loop
 returns c =
     let l = c .before in
-    let start = l .before .before .before .before in
+    let start = l .before .before .before .before .before in
     let h = start .args .head in
     let ok = start .pre .1 .0 in
     let last : l .loop .k ≡ l .before .chunk-count .result = omega (arith, c .loop-test .left, l .loop .inv .0) in
     let e : l .loop .k ≡ chunkCount h = last ∙ l .before .chunk-count .ensures in (
       l .loop .inv .3 ∙ ap (λ n. stillClocks h n (start .args .clocks)) e,
-      (l .loop .inv .2 ∙ ap (λ n. stillPlaces h n (start .args .places .now)) e, still-end h (start .args .places .now) (start .args .levels .now) (start .args .amplitudes .now) (start .args .samples .now) (ok .buffer .0) (start .args .out .now) (start .pre .1 .1 .1 .1) e (l .loop .inv .4)),
+      (l .loop .inv .2 ∙ ap (λ n. stillPlaces h n (start .args .places .now)) e, still-end h (start .args .places .now) (start .args .levels .now) (start .args .amplitudes .now) (recordings (start .args .samples .now) (start .args .visitor .now)) (ok .buffer .0) (start .args .out .now) (start .pre .1 .1 .1 .1) e (l .loop .inv .4)),
     )
 
 pub steady-block-spec : {M : Type 1} → statement M

@@ -3,6 +3,7 @@ use mathlib.Core.Path.{_≡_, sym, ap, _∙_}
 use native.Mathlib.Omega.{arith}
 use lib.ListN.{getD}
 use borrow.Author.Needs.{needs}
+use Rattle.recordings.specs.Recordings.{recordings}
 use Rattle.renderer.proofs.laws.Renderer.{mix-written}
 use Rattle.chunk.specs.Chunk.{partsOf}
 use Rattle.chunk.specs.Flat.{framesPlace}
@@ -23,7 +24,7 @@ slice-aggregate-mix-chunk c = search needs
 mix-chunk-requires : tie.Need-mix-chunk-requires
 unfolding framed
 mix-chunk-requires c κs =
-    let start = c .before .before .before .before in
+    let start = c .before .before .before .before .before in
     let n = start .args .frames in
     let places = start .args .places .now in
     let here : getD (framed n places) framesPlace 0 ≡ n = framed-here n places (start .pre .1 .0) in
@@ -34,15 +35,15 @@ slice-aggregate-write-frames c = search needs
 
 write-frames-requires : tie.Need-write-frames-requires
 write-frames-requires c κs =
-    let start = c .before .before .before .before .before .before .before .before in
-    let few = few-framed (start .args .frames) (start .args .places .now) (start .args .levels .now) (start .args .amplitudes .now) (start .args .samples .now) (start .pre .1 .0) (start .pre .1 .1 .0) in
-    (start .pre .1 .1 .1 .1 .1 .1, (omega (arith, few, c .before .before .before .mix-chunk .kept .1 .1 .1 .1 .1 .1 .1 .1 .0), (few, start .pre .1 .1 .1 .1 .1 .0)))
+    let start = c .before .before .before .before .before .before .before .before .before in
+    let few = few-framed (start .args .frames) (start .args .places .now) (start .args .levels .now) (start .args .amplitudes .now) (recordings (start .args .samples .now) (start .args .visitor .now)) (start .pre .1 .0) (start .pre .1 .1 .0) in
+    (start .pre .1 .1 .1 .1 .1 .1, (omega (arith, few, c .before .before .before .mix-chunk .kept .1 .1 .1 .1 .1 .1 .1 .1 .1 .0), (few, start .pre .1 .1 .1 .1 .1 .0)))
 
 advance-requires : tie.Need-advance-requires
 unfolding framed
 advance-requires c κs =
-    let start = c .before .before .before .before .before .before .before .before .before .before .before .before in
-    framed-can-advance (start .args .frames) (start .args .places .now) (start .args .levels .now) (start .args .amplitudes .now) (start .args .samples .now) (start .pre .1 .0) (start .pre .1 .1 .0) (start .pre .1 .1 .1 .0) (omega (arith, start .good .1 .1 .1 .1 .1 .1 .1 .1 .1 .0 .1))
+    let start = c .before .before .before .before .before .before .before .before .before .before .before .before .before in
+    framed-can-advance (start .args .frames) (start .args .places .now) (start .args .levels .now) (start .args .amplitudes .now) (recordings (start .args .samples .now) (start .args .visitor .now)) (start .pre .1 .0) (start .pre .1 .1 .0) (start .pre .1 .1 .1 .0) (omega (arith, start .good .1 .1 .1 .1 .1 .1 .1 .1 .1 .0 .1), omega (arith, start .good .1 .1 .1 .1 .1 .1 .1 .1 .1 .1 .0 .1))
 
 same-length : tie.Need-same-length
 same-length c = search needs
@@ -50,12 +51,12 @@ same-length c = search needs
 returns : tie.Need-returns
 unfolding framed mixedSamples
 returns c =
-    let start = c .before .before .before .before .before .before .before .before .before .before .before .before .before in
+    let start = c .before .before .before .before .before .before .before .before .before .before .before .before .before .before in
     let n = start .args .frames in
     let places = start .args .places .now in
-    let few = few-framed n places (start .args .levels .now) (start .args .amplitudes .now) (start .args .samples .now) (start .pre .1 .0) (start .pre .1 .1 .0) in (
+    let few = few-framed n places (start .args .levels .now) (start .args .amplitudes .now) (recordings (start .args .samples .now) (start .args .visitor .now)) (start .pre .1 .0) (start .pre .1 .1 .0) in (
       c .advance .ensures,
-      c .before .before .before .before .write-frames .ensures ∙ mix-written (start .args .channels) n (chunkFrom (framed n places) (start .args .levels .now) (start .args .amplitudes .now)) (start .args .samples .now) _ (framed-here n places (start .pre .1 .0)) (omega (arith, few)) (c .before .before .before .before .before .before .before .before .mix-chunk .ensures),
+      c .before .before .before .before .write-frames .ensures ∙ mix-written (start .args .channels) n (chunkFrom (framed n places) (start .args .levels .now) (start .args .amplitudes .now)) (recordings (start .args .samples .now) (start .args .visitor .now)) _ (framed-here n places (start .pre .1 .0)) (omega (arith, few)) (c .before .before .before .before .before .before .before .before .mix-chunk .ensures),
     )
 
 pub steady-chunk-spec : {M : Type 1} → statement M

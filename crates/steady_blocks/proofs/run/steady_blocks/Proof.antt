@@ -5,6 +5,7 @@ use native.Mathlib.Omega.{arith}
 use lib.ListN.{length}
 use borrow.Author.Needs.{needs}
 use borrow.Rule.Slice.PartMut.{same-len-mid}
+use Rattle.recordings.specs.Recordings.{recordings}
 use Rattle.laws.specs.Pieces.{pieces, putAt}
 use Rattle.laws.proofs.laws.Pieces.{length-part, put-zero}
 use Rattle.mixer_laws.proofs.laws.Mixes.{mixes}
@@ -17,39 +18,39 @@ use Rattle.steady_blocks.proofs.run.steady_blocks.Statement.{statement}
 use Rattle.steady_blocks.proofs.run.steady_blocks.Tie as tie
 
 abbrev Inv-loop : tie.InvT-loop
-Inv-loop mixer scene samples table full last first out₀ head width places₀ levels amplitudes end count clocks₀ j₀ out places clocks j =
-    (j ≤ count) × (length out ≡ length out₀) × StandsStill scene mixer places levels amplitudes (blocksRun scene j mixer) × (clocks ≡ blocksRun scene j mixer .clocks) × (out ≡ putAt (first * blockWidth scene) (pieces (runPiece scene samples mixer) j) out₀)
+Inv-loop mixer scene samples visitor table full last first out₀ head width places₀ levels amplitudes end count clocks₀ j₀ out places clocks j =
+    (j ≤ count) × (length out ≡ length out₀) × StandsStill scene mixer places levels amplitudes (blocksRun scene j mixer) × (clocks ≡ blocksRun scene j mixer .clocks) × (out ≡ putAt (first * blockWidth scene) (pieces (runPiece scene (recordings samples visitor) mixer) j) out₀)
 
 abbrev μ-loop : tie.MeasureT-loop
-μ-loop mixer scene samples table full last first out₀ head width places₀ levels amplitudes end count clocks₀ j₀ out places clocks j =
+μ-loop mixer scene samples visitor table full last first out₀ head width places₀ levels amplitudes end count clocks₀ j₀ out places clocks j =
     count - j
 
 mul-width : tie.Need-mul-width Inv-loop μ-loop
 mul-width c =
-    let start = c .before .before .before .before in
+    let start = c .before .before .before .before .before in
     omega (arith, room (start .args .scene) (start .pre .1 .0 .scene))
 
 chunk-of-requires : tie.Need-chunk-of-requires Inv-loop μ-loop
 chunk-of-requires c κs =
-    let start = c .before .before .before .before in
+    let start = c .before .before .before .before .before in
     let ask = start .pre .1 .0 in
-    (start .pre .0, (ask .scene, mixes (start .args .scene) (start .args .samples .now) (ask .chunks) (start .args .mixer) (ask .scene) (ask .there) (omega (arith, start .good .1 .1 .0 .1)) (ask .mixer)))
+    (start .pre .0, (ask .scene, mixes (start .args .scene) (recordings (start .args .samples .now) (start .args .visitor .now)) (ask .chunks) (start .args .mixer) (ask .scene) (ask .there) (omega (arith, start .good .1 .1 .0 .1), omega (arith, start .good .1 .1 .1 .0 .1)) (ask .mixer)))
 
 flatten-requires : tie.Need-flatten-requires Inv-loop μ-loop
 flatten-requires c κs = (refl, (refl, refl))
 
 next-orders-requires : tie.Need-next-orders-requires Inv-loop μ-loop
 next-orders-requires c κs =
-    c .before .before .before .before .before .before .before .before .before .pre .1 .0 .scene .orderCount
+    c .before .before .before .before .before .before .before .before .before .before .pre .1 .0 .scene .orderCount
 
 sub-count : tie.Need-sub-count Inv-loop μ-loop
 sub-count c =
-    let start = c .before .before .before .before .before .before .before .before .before .before in
+    let start = c .before .before .before .before .before .before .before .before .before .before .before in
     omega (arith, next-after (start .args .scene) (start .args .first) (start .pre .1 .0 .inside), c .next-orders .ensures)
 
 loop-holds : tie.Need-loop-holds Inv-loop μ-loop
 loop-holds c =
-    let start = c .before .before .before .before .before .before .before .before .before .before .before in
+    let start = c .before .before .before .before .before .before .before .before .before .before .before .before in
     let s = start .args .scene in
     let m = start .args .mixer in
     let ask = start .pre .1 .0 in (
@@ -57,13 +58,13 @@ loop-holds c =
       refl,
       stands-first s m (ask .scene) (s .head .buffer) (c .before .before .before .before .before .before .chunk-of .ensures) (c .before .before .flatten .ensures .0) (c .before .before .flatten .ensures .1 .0) (c .before .before .flatten .ensures .1 .1) (ask .still),
       ap (λ x. x .clocks) (sym (run-zero s m (ask .scene))),
-      put-zero (runPiece s (start .args .samples .now) m) _ _,
+      put-zero (runPiece s (recordings (start .args .samples .now) (start .args .visitor .now)) m) _ _,
     )
 
 add-from : tie.Need-add-from Inv-loop μ-loop
 add-from c =
     let l = c .before in
-    let start = l .before .before .before .before .before .before .before .before .before .before .before .before in
+    let start = l .before .before .before .before .before .before .before .before .before .before .before .before .before in
     let ask = start .pre .1 .0 in
     let stops = l .before .before .next-orders .ensures in
     omega (arith, run-short ask stops (c .loop-test .taken))
@@ -71,7 +72,7 @@ add-from c =
 mul-from : tie.Need-mul-from Inv-loop μ-loop
 mul-from c =
     let l = c .before in
-    let start = l .before .before .before .before .before .before .before .before .before .before .before .before in
+    let start = l .before .before .before .before .before .before .before .before .before .before .before .before .before in
     let ask = start .pre .1 .0 in
     let stops = l .before .before .next-orders .ensures in
     omega (arith, run-fits ask stops (c .loop-test .taken))
@@ -79,7 +80,7 @@ mul-from c =
 add-to : tie.Need-add-to Inv-loop μ-loop
 add-to c =
     let l = c .before in
-    let start = l .before .before .before .before .before .before .before .before .before .before .before .before in
+    let start = l .before .before .before .before .before .before .before .before .before .before .before .before .before in
     let ask = start .pre .1 .0 in
     let stops = l .before .before .next-orders .ensures in
     omega (arith, run-fits ask stops (c .loop-test .taken))
@@ -87,7 +88,7 @@ add-to c =
 mul-steady-block : tie.Need-mul-steady-block Inv-loop μ-loop
 mul-steady-block c =
     let l = c .before .before .before .before in
-    let start = l .before .before .before .before .before .before .before .before .before .before .before .before in
+    let start = l .before .before .before .before .before .before .before .before .before .before .before .before .before in
     let ask = start .pre .1 .0 in
     let stops = l .before .before .next-orders .ensures in
     omega (arith, run-fits ask stops (c .before .before .before .loop-test .taken))
@@ -101,7 +102,7 @@ part-steady-block-start c = search needs
 part-steady-block-end : tie.Need-part-steady-block-end Inv-loop μ-loop
 part-steady-block-end c =
     let l = c .before .before .before .before in
-    let start = l .before .before .before .before .before .before .before .before .before .before .before .before in
+    let start = l .before .before .before .before .before .before .before .before .before .before .before .before .before in
     let ask = start .pre .1 .0 in
     let stops = l .before .before .next-orders .ensures in
     run-ends ask stops (c .before .before .before .loop-test .taken) (l .loop .inv .1 ∙ start .pre .1 .1 .1 .1)
@@ -109,7 +110,7 @@ part-steady-block-end c =
 steady-block-requires : tie.Need-steady-block-requires Inv-loop μ-loop
 steady-block-requires c κs =
     let l = c .before .before .before .before .before in
-    let start = l .before .before .before .before .before .before .before .before .before .before .before .before in
+    let start = l .before .before .before .before .before .before .before .before .before .before .before .before .before in
     let ask = start .pre .1 .0 in
     let stops = l .before .before .next-orders .ensures in
     let s = start .args .scene in
@@ -126,13 +127,13 @@ loop-less c = search needs
 loop-again : tie.Need-loop-again Inv-loop μ-loop
 loop-again c =
     let l = c .before .before .before .before .before .before .before .before in
-    let start = l .before .before .before .before .before .before .before .before .before .before .before .before in
+    let start = l .before .before .before .before .before .before .before .before .before .before .before .before .before in
     let ask = start .pre .1 .0 in
     let h = l .loop .inv .2 in
     let from = (start .args .first + l .loop .j) * blockWidth (start .args .scene) in
     let done = c .before .before .steady-block in (
       omega (arith, c .before .before .before .before .before .before .before .loop-test .taken),
-      same-len-mid from (from + blockWidth (start .args .scene) - from) (l .loop .out) (done .last .1 .1 .1 .1 .1 .1 .1 .1 .1 .0) (done .kept .1 .1 .1 .1 .1 .1 .1 .1 .1 .0) ∙ l .loop .inv .1,
+      same-len-mid from (from + blockWidth (start .args .scene) - from) (l .loop .out) (done .last .1 .1 .1 .1 .1 .1 .1 .1 .1 .1 .0) (done .kept .1 .1 .1 .1 .1 .1 .1 .1 .1 .1 .0) ∙ l .loop .inv .1,
       run-places ask (l .loop .j) h (done .ensures .1 .0),
       run-clocks ask (l .loop .j) h (l .loop .inv .3) (done .ensures .0),
       run-samples ask (l .loop .j) h (start .args .out .now) (start .pre .1 .1 .1 .1) (l .loop .inv .4) (done .ensures .1 .1),
@@ -141,7 +142,7 @@ loop-again c =
 played-by-requires : tie.Need-played-by-requires Inv-loop μ-loop
 played-by-requires c κs =
     let l = c .before .before .before in
-    let ask = l .before .before .before .before .before .before .before .before .before .before .before .before .pre .1 .0 in
+    let ask = l .before .before .before .before .before .before .before .before .before .before .before .before .before .pre .1 .0 in
     (ask .scene .soundCount, run-left ask (l .loop .j) (l .loop .inv .2))
 
 with-run-requires : tie.Need-with-run-requires Inv-loop μ-loop
@@ -153,14 +154,14 @@ same-length c = search needs
 returns : tie.Need-returns Inv-loop μ-loop
 returns c =
     let l = c .before .before .before .before .before in
-    let start = l .before .before .before .before .before .before .before .before .before .before .before .before in
+    let start = l .before .before .before .before .before .before .before .before .before .before .before .before .before in
     let s = start .args .scene in
     let m = start .args .mixer in
     let first = start .args .first in
     let stops = l .before .before .next-orders .ensures in
     let ended : l .loop .j ≡ l .before .before .next-orders .result - first = omega (arith, c .before .before .before .before .loop-test .left, l .loop .inv .0) in
     let e : l .loop .j ≡ nextOrders s first - first = ended ∙ ap (λ n. n - first) stops in
-    (stops, (run-mixer (start .pre .1 .0) (l .loop .j) (l .loop .inv .2) (l .loop .inv .3) (c .before .played-by .ensures) (c .with-run .ensures) e, l .loop .inv .4 ∙ ap (λ n. putAt (first * blockWidth s) (pieces (runPiece s (start .args .samples .now) m) n) (start .args .out .now)) e))
+    (stops, (run-mixer (start .pre .1 .0) (l .loop .j) (l .loop .inv .2) (l .loop .inv .3) (c .before .played-by .ensures) (c .with-run .ensures) e, l .loop .inv .4 ∙ ap (λ n. putAt (first * blockWidth s) (pieces (runPiece s (recordings (start .args .samples .now) (start .args .visitor .now)) m) n) (start .args .out .now)) e))
 
 pub steady-blocks-spec : {M : Type 1} → statement M
 steady-blocks-spec =

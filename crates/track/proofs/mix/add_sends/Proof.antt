@@ -28,10 +28,10 @@ abbrev Inv : Chunk → List Float → List Float → List Float → ℕ → Type
 Inv chunk sends out₀ out s = (s ≤ chunk .«send_count») × (length out ≡ length out₀) × (downto (turns (withFrames (scratch 0 (chunk .frames))) (step chunk sends)) s out ≡ downto (turns (withFrames (scratch 0 (chunk .frames))) (step chunk sends)) (chunk .«send_count») out₀)
 
 abbrev Inv-loop : tie.InvT-loop
-Inv-loop places levels amplitudes parts table samples sends out₀ frames s₀ out s = Inv (chunkFrom places levels amplitudes) sends out₀ out s
+Inv-loop places levels amplitudes parts table samples visitor sends out₀ frames s₀ out s = Inv (chunkFrom places levels amplitudes) sends out₀ out s
 
 abbrev μ-loop : tie.MeasureT-loop
-μ-loop places levels amplitudes parts table samples sends out₀ frames s₀ out s = s
+μ-loop places levels amplitudes parts table samples visitor sends out₀ frames s₀ out s = s
 
 element-copy-out-frames : tie.Need-element-copy-out-frames Inv-loop μ-loop
 element-copy-out-frames c = search needs
@@ -46,15 +46,15 @@ sub-s : tie.Need-sub-s Inv-loop μ-loop
 sub-s c = search needs
 
 send-at-requires : tie.Need-send-at-requires Inv-loop μ-loop
-send-at-requires c κs = omega (arith, c .loop-test .taken, c .before .loop .inv .0, c .before .before .before .before .before .before .before .pre .1 .0 .sends)
+send-at-requires c κs = omega (arith, c .loop-test .taken, c .before .loop .inv .0, c .before .before .before .before .before .before .before .before .pre .1 .0 .sends)
 
 mul-first : tie.Need-mul-first Inv-loop μ-loop
-mul-first c = search (needs, c .before .before .loop .inv .0, c .before .before .before .before .before .before .before .before .pre .1 .0 .sends)
+mul-first c = search (needs, c .before .before .loop .inv .0, c .before .before .before .before .before .before .before .before .before .pre .1 .0 .sends)
 
 add-send-requires : tie.Need-add-send-requires Inv-loop μ-loop
 add-send-requires c κs =
     let l = c .before .before .before in
-    let start = c .before .before .before .before .before .before .before .before .before in
+    let start = c .before .before .before .before .before .before .before .before .before .before in
     let ok = start .pre .1 .0 in
     let h = c .before .before .loop-test .taken in
     (start .pre .0, ((ok .short, omega (arith, l .loop .inv .1, start .pre .1 .1 .1 .0)), (omega (arith, h, l .loop .inv .0, ok .sends, ok .short, start .pre .1 .1 .1 .1), (subst LevelInRange (sym (c .before .send-at .ensures)) (ok .sendLevels (l .loop .s - 1) (omega (arith, h, l .loop .inv .0))), start .pre .1 .1 .0))))
@@ -65,7 +65,7 @@ loop-less c = search needs
 loop-again : tie.Need-loop-again Inv-loop μ-loop
 loop-again c =
     let l = c .before .before .before .before .before .before in
-    let args = c .before .before .before .before .before .before .before .before .before .before .before .before .args in
+    let args = c .before .before .before .before .before .before .before .before .before .before .before .before .before .args in
     let chunk = chunkFrom (args .places .now) (args .levels .now) (args .amplitudes .now) in
     let s = l .loop .s in
     let inv = l .loop .inv in
@@ -81,7 +81,7 @@ returns : tie.Need-returns Inv-loop μ-loop
 unfolding withSendTracks
 returns c =
     let l = c .before in
-    let start = c .before .before .before .before .before .before .before in
+    let start = c .before .before .before .before .before .before .before .before in
     let args = start .args in
     let chunk = chunkFrom (args .places .now) (args .levels .now) (args .amplitudes .now) in
     let L = scratch 0 (chunk .frames) in

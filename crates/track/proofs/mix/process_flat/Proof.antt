@@ -4,6 +4,7 @@ use native.Mathlib.Omega.{arith}
 use lib.Ieee.{binary32, ofBits, ofInt}
 use lib.ListN.{length, replicate, length-replicate}
 use borrow.Author.Needs.{needs}
+use Rattle.recordings.specs.Recordings.{recordings}
 use Rattle.chunk.specs.declared.chunk.Level.{Level}
 use Rattle.chunk.specs.Chunk.{LevelInRange}
 use Rattle.frame.specs.Layout.{scratch, withFrames}
@@ -40,7 +41,7 @@ slice-aggregate-process-tracks c = search needs
 
 process-tracks-requires : tie.Need-process-tracks-requires
 process-tracks-requires c κs =
-    let start = c .before .before .before .before .before .before .before .before .before .before .before .before .before in
+    let start = c .before .before .before .before .before .before .before .before .before .before .before .before .before .before in
     let args = start .args in
     let ok = start .pre .1 .0 in
     let places = args .places .now in
@@ -53,25 +54,25 @@ slice-aggregate-add-sends c = search needs
 
 add-sends-requires : tie.Need-add-sends-requires
 add-sends-requires c κs =
-    let start = c .before .before .before .before .before .before .before .before .before .before .before .before .before .before .before .before .before .before .before in
+    let start = c .before .before .before .before .before .before .before .before .before .before .before .before .before .before .before .before .before .before .before .before in
     let args = start .args in
     let chunk = chunkFrom (args .places .now) (args .levels .now) (args .amplitudes .now) in
-    let samples = args .samples .now in
+    let samples = recordings (args .samples .now) (args .visitor .now) in
     let t = c .before .before .before .before .before .process-tracks .ensures in
     let a = kept (scratch 0 (chunk .frames)) (tracksSet chunk samples) (chunk .frames) (args .out .now) (t .0) in
     (start .pre .0, (start .pre .1 .0, (start .pre .1 .1 .0, (omega (arith, a, start .pre .1 .1 .1), ap length (t .1) ∙ onSends-length (chunk .frames) (withSubSends trackDepth chunk samples 0) (replicate sendPlaces (ofBits binary32 0)) ∙ length-replicate sendPlaces (ofBits binary32 0)))))
 
 add-sounds-requires : tie.Need-add-sounds-requires
 add-sounds-requires c κs =
-    let start = c .before .before .before .before .before .before .before .before .before .before .before .before .before .before .before .before .before .before .before .before .before .before .before .before in
+    let start = c .before .before .before .before .before .before .before .before .before .before .before .before .before .before .before .before .before .before .before .before .before .before .before .before .before in
     let args = start .args in
     let chunk = chunkFrom (args .places .now) (args .levels .now) (args .amplitudes .now) in
-    let samples = args .samples .now in
+    let samples = recordings (args .samples .now) (args .visitor .now) in
     let ok = start .pre .1 .0 in
     let tracks = c .before .before .before .before .before .before .before .before .before .before .process-tracks in
     let sent = c .before .before .before .before .add-sends in
     let a = kept (scratch 0 (chunk .frames)) (tracksSet chunk samples) (chunk .frames) (args .out .now) (tracks .ensures .0) in
-    let b = kept (scratch 0 (chunk .frames)) (withSendTracks chunk (tracks .last .1 .1 .1 .1 .1 .1 .1 .1 .1 .0)) (chunk .frames) _ (sent .ensures) in
+    let b = kept (scratch 0 (chunk .frames)) (withSendTracks chunk (tracks .last .1 .1 .1 .1 .1 .1 .1 .1 .1 .1 .0)) (chunk .frames) _ (sent .ensures) in
     (ok, (sounds-linked (args .places .now) (args .levels .now) (args .amplitudes .now) (ok .sounds) (c .before .before .before .before .before .before .before .before .before .before .before .before .before .before .before .links-of2 .ensures), (omega (arith, a, b, start .pre .1 .1 .1), omega arith)))
 
 main-level-requires : tie.Need-main-level-requires
@@ -79,15 +80,15 @@ main-level-requires c κs = search needs
 
 apply-level-requires : tie.Need-apply-level-requires
 apply-level-requires c κs =
-    let start = c .before .before .before .before .before .before .before .before .before .before .before .before .before .before .before .before .before .before .before .before .before .before .before .before .before .before .before .before .before in
+    let start = c .before .before .before .before .before .before .before .before .before .before .before .before .before .before .before .before .before .before .before .before .before .before .before .before .before .before .before .before .before .before in
     let args = start .args in
     let chunk = chunkFrom (args .places .now) (args .levels .now) (args .amplitudes .now) in
-    let samples = args .samples .now in
+    let samples = recordings (args .samples .now) (args .visitor .now) in
     let tracks = c .before .before .before .before .before .before .before .before .before .before .before .before .before .before .before .process-tracks in
     let sent = c .before .before .before .before .before .before .before .before .before .add-sends in
     let n = chunk .frames in
     let a = kept (scratch 0 n) (tracksSet chunk samples) n (args .out .now) (tracks .ensures .0) in
-    let b = kept (scratch 0 n) (withSendTracks chunk (tracks .last .1 .1 .1 .1 .1 .1 .1 .1 .1 .0)) n _ (sent .ensures) in
+    let b = kept (scratch 0 n) (withSendTracks chunk (tracks .last .1 .1 .1 .1 .1 .1 .1 .1 .1 .1 .0)) n _ (sent .ensures) in
     let d = kept (scratch 0 n) (withSounds chunk samples 0) n _ (c .before .before .before .before .add-sounds .ensures) in
     let ok = start .pre .1 .0 in
     (start .pre .0, ((ok .short, omega (arith, a, b, d, start .pre .1 .1 .1)), (subst LevelInRange (sym (c .before .main-level .ensures)) (ok .mainLevel), start .pre .1 .1 .0)))
@@ -98,10 +99,10 @@ same-length c = search needs
 returns : tie.Need-returns
 unfolding ofBits ofInt
 returns c =
-    let start = c .before .before .before .before .before .before .before .before .before .before .before .before .before .before .before .before .before .before .before .before .before .before .before .before .before .before .before .before .before .before .before .before in
+    let start = c .before .before .before .before .before .before .before .before .before .before .before .before .before .before .before .before .before .before .before .before .before .before .before .before .before .before .before .before .before .before .before .before .before in
     let args = start .args in
     let chunk = chunkFrom (args .places .now) (args .levels .now) (args .amplitudes .now) in
-    let samples = args .samples .now in
+    let samples = recordings (args .samples .now) (args .visitor .now) in
     let n = chunk .frames in
     let ok = start .pre .1 .0 in
     let tracks = c .before .before .before .before .before .before .before .before .before .before .before .before .before .before .before .before .before .before .process-tracks .ensures in

@@ -7,6 +7,7 @@ use native.Mathlib.Omega.{arith}
 use lib.ListN.{length}
 use lib.Ieee.{Float}
 use borrow.Author.Needs.{needs}
+use Rattle.recordings.specs.Recordings.{Recordings, recordings}
 use Rattle.chunk.specs.declared.chunk.Chunk.{Chunk}
 use Rattle.frame.specs.Frame.{cleared}
 use Rattle.frame.specs.Layout.{scratch, withFrames}
@@ -29,14 +30,14 @@ use Rattle.track.proofs.mix.process_tracks.Tie as tie
 abbrev parent : Chunk → ℕ → ℕ
 parent c k = trackRow c k .parent
 
-abbrev Inv : Chunk → List Float → List Float → List Float → List Float → List Float → ℕ → Type 0
+abbrev Inv : Chunk → Recordings → List Float → List Float → List Float → List Float → ℕ → Type 0
 Inv chunk samples out₀ sends₀ out sends j = (length out ≡ length out₀) × (length sends ≡ length sends₀) × Follows (withFrames (scratch 0 (chunk .frames))) (subStep trackDepth chunk samples 0) (chunk .«track_count») (parent chunk) 0 out₀ out j × Follows (allSends (chunk .frames)) (subSend trackDepth chunk samples 0) (chunk .«track_count») (parent chunk) 0 sends₀ sends j × AllRunning (chunk .frames) out
 
 abbrev Inv-loop : tie.InvT-loop
-Inv-loop places levels amplitudes sub-tracks sounds parts table samples out₀ sends₀ frames j₀ out sends j = Inv (chunkFrom places levels amplitudes) samples out₀ sends₀ out sends j
+Inv-loop places levels amplitudes sub-tracks sounds parts table samples visitor out₀ sends₀ frames j₀ out sends j = Inv (chunkFrom places levels amplitudes) (recordings samples visitor) out₀ sends₀ out sends j
 
 abbrev μ-loop : tie.MeasureT-loop
-μ-loop places levels amplitudes sub-tracks sounds parts table samples out₀ sends₀ frames j₀ out sends j = j
+μ-loop places levels amplitudes sub-tracks sounds parts table samples visitor out₀ sends₀ frames j₀ out sends j = j
 
 element-copy-out-frames : tie.Need-element-copy-out-frames Inv-loop μ-loop
 element-copy-out-frames c = search needs
@@ -50,10 +51,10 @@ last-line-requires c κs = search needs
 loop-holds : tie.Need-loop-holds Inv-loop μ-loop
 unfolding subTrackLinks
 loop-holds c =
-    let start = c .before .before .before .before .before .before .before .before .before in
+    let start = c .before .before .before .before .before .before .before .before .before .before in
     let args = start .args in
     let chunk = chunkFrom (args .places .now) (args .levels .now) (args .amplitudes .now) in
-    let samples = args .samples .now in
+    let samples = recordings (args .samples .now) (args .visitor .now) in
     let owned = start .pre .1 .1 .0 .0 in (
       refl,
       refl,
@@ -64,7 +65,7 @@ loop-holds c =
 
 process-requires : tie.Need-process-requires Inv-loop μ-loop
 process-requires c κs =
-    let start = c .before .before .before .before .before .before .before .before .before .before .before .before .before in
+    let start = c .before .before .before .before .before .before .before .before .before .before .before .before .before .before in
     let args = start .args in
     let chunk = chunkFrom (args .places .now) (args .levels .now) (args .amplitudes .now) in
     let ok = start .pre .1 .0 in
@@ -79,10 +80,10 @@ loop-less : tie.Need-loop-less Inv-loop μ-loop
 unfolding subTrackLinks
 loop-less c =
     let l = c .before .before .before .before .before .before .before .before .before in
-    let start = c .before .before .before .before .before .before .before .before .before .before .before .before .before .before .before .before .before .before .before in
+    let start = c .before .before .before .before .before .before .before .before .before .before .before .before .before .before .before .before .before .before .before .before in
     let args = start .args in
     let chunk = chunkFrom (args .places .now) (args .levels .now) (args .amplitudes .now) in
-    let samples = args .samples .now in
+    let samples = recordings (args .samples .now) (args .visitor .now) in
     let j = l .loop .j in
     let inv = l .loop .inv in
     let h = c .before .before .before .before .before .before .before .before .loop-test .taken in
@@ -94,10 +95,10 @@ loop-again : tie.Need-loop-again Inv-loop μ-loop
 unfolding subTrackLinks
 loop-again c =
     let l = c .before .before .before .before .before .before .before .before .before in
-    let start = c .before .before .before .before .before .before .before .before .before .before .before .before .before .before .before .before .before .before .before in
+    let start = c .before .before .before .before .before .before .before .before .before .before .before .before .before .before .before .before .before .before .before .before in
     let args = start .args in
     let chunk = chunkFrom (args .places .now) (args .levels .now) (args .amplitudes .now) in
-    let samples = args .samples .now in
+    let samples = recordings (args .samples .now) (args .visitor .now) in
     let j = l .loop .j in
     let inv = l .loop .inv in
     let h = c .before .before .before .before .before .before .before .before .loop-test .taken in
@@ -124,10 +125,10 @@ same-length-2 c = search needs
 
 returns : tie.Need-returns Inv-loop μ-loop
 returns c =
-    let start = c .before .before .before .before .before .before .before .before .before .before .before in
+    let start = c .before .before .before .before .before .before .before .before .before .before .before .before in
     let args = start .args in
     let chunk = chunkFrom (args .places .now) (args .levels .now) (args .amplitudes .now) in
-    let samples = args .samples .now in
+    let samples = recordings (args .samples .now) (args .visitor .now) in
     let inv = c .before .loop .inv in
     let n = chunk .frames in
     let g = subStep trackDepth chunk samples 0 in

@@ -8,6 +8,7 @@ use lib.Dec.{eqb}
 use lib.ListN.{length}
 use lib.Ieee.{Float}
 use borrow.Author.Needs.{needs}
+use Rattle.recordings.specs.Recordings.{Recordings, recordings, recording}
 use Rattle.chunk.specs.declared.chunk.Chunk.{Chunk}
 use Rattle.chunk.specs.declared.chunk.ChunkSound.{ChunkSound}
 use Rattle.frame.specs.Layout.{scratch, withFrames}
@@ -24,23 +25,23 @@ use Rattle.chunk.specs.Chunk.{soundRow}
 use Rattle.track.proofs.sounds.add_sounds.Tie as tie
 
 -- sound k's turn, and its track
-abbrev step : Chunk → List Float → ℕ → ℕ → Step
+abbrev step : Chunk → Recordings → ℕ → ℕ → Step
 step c samples line k i a = cond (eqb (soundRow c k .track) line) (addedSound samples (soundRow c k) i a) a
 
 abbrev owner : Chunk → ℕ → ℕ
 owner c k = soundRow c k .track
 
-skips : (c : Chunk) (samples : List Float) (line : ℕ) (begun : List Float) → Skips (withFrames (scratch 0 (c .frames))) (step c samples line) (c .«sound_count») (owner c) line begun
+skips : (c : Chunk) (samples : Recordings) (line : ℕ) (begun : List Float) → Skips (withFrames (scratch 0 (c .frames))) (step c samples line) (c .«sound_count») (owner c) line begun
 skips c samples line begun k d x = step-left (withFrames (scratch 0 (c .frames))) (soundRow c k .track) line (addedSound samples (soundRow c k)) x (frames-steps (scratch 0 (c .frames))) d
 
-abbrev Inv : Chunk → List Float → ℕ → List Float → List Float → ℕ → Type 0
+abbrev Inv : Chunk → Recordings → ℕ → List Float → List Float → ℕ → Type 0
 Inv c samples line begun to k = (length to ≡ length begun) × Follows (withFrames (scratch 0 (c .frames))) (step c samples line) (c .«sound_count») (owner c) line begun to k
 
 abbrev Inv-loop : tie.InvT-loop
-Inv-loop to₀ samples places levels amplitudes links line frames k₀ to k = Inv (chunkFrom places levels amplitudes) samples line to₀ to k
+Inv-loop to₀ samples visitor places levels amplitudes links line frames k₀ to k = Inv (chunkFrom places levels amplitudes) (recordings samples visitor) line to₀ to k
 
 abbrev μ-loop : tie.MeasureT-loop
-μ-loop to₀ samples places levels amplitudes links line frames k₀ to k = k
+μ-loop to₀ samples visitor places levels amplitudes links line frames k₀ to k = k
 
 element-copy-out-frames : tie.Need-element-copy-out-frames Inv-loop μ-loop
 element-copy-out-frames c = search needs
@@ -51,10 +52,10 @@ last-line-requires c κs = search needs
 loop-holds : tie.Need-loop-holds Inv-loop μ-loop
 unfolding soundLinks
 loop-holds c =
-    let start = c .before .before .before .before in
+    let start = c .before .before .before .before .before in
     let args = start .args in
     let chunk = chunkFrom (args .places .now) (args .levels .now) (args .amplitudes .now) in
-    let samples = args .samples .now in
+    let samples = recordings (args .samples .now) (args .visitor .now) in
     let to = args .to .now in
     (refl, follow-start (withFrames (scratch 0 (chunk .frames))) (step chunk samples (args .line)) (chunk .«sound_count») (owner chunk) (args .line) to (skips chunk samples (args .line) to) (start .pre .1 .1 .1) (start .pre .1 .0) (c .last-line .ensures))
 
@@ -62,13 +63,13 @@ sub-sound-at : tie.Need-sub-sound-at Inv-loop μ-loop
 sub-sound-at c = search needs
 
 sound-at-requires : tie.Need-sound-at-requires Inv-loop μ-loop
-sound-at-requires c κs = omega (arith, c .loop-test .taken, c .before .loop .inv .1 .few, c .before .before .before .before .before .before .pre .0 .sounds)
+sound-at-requires c κs = omega (arith, c .loop-test .taken, c .before .loop .inv .1 .few, c .before .before .before .before .before .before .before .pre .0 .sounds)
 
 remaining-requires : tie.Need-remaining-requires Inv-loop μ-loop
 remaining-requires c κs =
     let l = c .before .before in
-    let start = c .before .before .before .before .before .before .before in
-    subst (λ (s : ChunkSound). 2 * (s .start + s .left) ≤ length (start .args .samples .now)) (sym (c .sound-at .ensures)) (start .pre .0 .held (l .loop .k - 1) (omega (arith, c .before .loop-test .taken, l .loop .inv .1 .few)))
+    let start = c .before .before .before .before .before .before .before .before in
+    subst (λ (s : ChunkSound). 2 * (s .start + s .left) ≤ length (recording (recordings (start .args .samples .now) (start .args .visitor .now)) (s .from))) (sym (c .sound-at .ensures)) (start .pre .0 .held (l .loop .k - 1) (omega (arith, c .before .loop-test .taken, l .loop .inv .1 .few)))
 
 add-sound-requires : tie.Need-add-sound-requires Inv-loop μ-loop
 add-sound-requires c κs = search needs
@@ -80,10 +81,10 @@ loop-less : tie.Need-loop-less Inv-loop μ-loop
 unfolding soundLinks
 loop-less c =
     let l = c .before .before .before .before .before .before .before .before in
-    let start = c .before .before .before .before .before .before .before .before .before .before .before .before .before in
+    let start = c .before .before .before .before .before .before .before .before .before .before .before .before .before .before in
     let args = start .args in
     let chunk = chunkFrom (args .places .now) (args .levels .now) (args .amplitudes .now) in
-    let samples = args .samples .now in
+    let samples = recordings (args .samples .now) (args .visitor .now) in
     let k = l .loop .k in
     let h = c .before .before .before .before .before .before .before .loop-test .taken in
     let g = step chunk samples (args .line) in
@@ -94,10 +95,10 @@ loop-again : tie.Need-loop-again Inv-loop μ-loop
 unfolding soundLinks
 loop-again c =
     let l = c .before .before .before .before .before .before .before .before in
-    let start = c .before .before .before .before .before .before .before .before .before .before .before .before .before in
+    let start = c .before .before .before .before .before .before .before .before .before .before .before .before .before .before in
     let args = start .args in
     let chunk = chunkFrom (args .places .now) (args .levels .now) (args .amplitudes .now) in
-    let samples = args .samples .now in
+    let samples = recordings (args .samples .now) (args .visitor .now) in
     let k = l .loop .k in
     let h = c .before .before .before .before .before .before .before .loop-test .taken in
     let g = step chunk samples (args .line) in
@@ -117,11 +118,11 @@ returns : tie.Need-returns Inv-loop μ-loop
 unfolding withSounds
 returns c =
     let l = c .before in
-    let start = c .before .before .before .before .before .before in
+    let start = c .before .before .before .before .before .before .before in
     let args = start .args in
     let chunk = chunkFrom (args .places .now) (args .levels .now) (args .amplitudes .now) in
     let L = scratch 0 (chunk .frames) in
-    follow-done (withFrames L) (step chunk (args .samples .now) (args .line)) (chunk .«sound_count») (owner chunk) (args .line) (args .to .now) (frames-steps L) (omega (arith, start .pre .1 .1 .0)) (omega (arith, c .loop-test .left)) (l .loop .inv .1)
+    follow-done (withFrames L) (step chunk (recordings (args .samples .now) (args .visitor .now)) (args .line)) (chunk .«sound_count») (owner chunk) (args .line) (args .to .now) (frames-steps L) (omega (arith, start .pre .1 .1 .0)) (omega (arith, c .loop-test .left)) (l .loop .inv .1)
 
 pub add-sounds-spec : {M : Type 1} → statement M
 add-sounds-spec =

@@ -9,6 +9,7 @@ use lib.ListN.{length, replicate}
 use lib.Ieee.{Float, ofBits, ofInt}
 use borrow.Author.Needs.{needs}
 use borrow.Author.Tests.{not-true, not-false}
+use Rattle.recordings.specs.Recordings.{Recordings, recordings}
 use Rattle.limits.specs.Limits.{trackPlaces, chunkFramesMost}
 use Rattle.links.specs.Links.{lines}
 use Rattle.chunk.specs.declared.chunk.Chunk.{Chunk}
@@ -56,7 +57,7 @@ silent = replicate scratchPlaces zeroSample
 abbrev parent : Chunk → ℕ → ℕ
 parent c k = trackRow c k .parent
 
-abbrev Inv : Chunk → List Float → ℕ → ℕ → List Float → List Float → List Float → List Float → ℕ → Type 0
+abbrev Inv : Chunk → Recordings → ℕ → ℕ → List Float → List Float → List Float → List Float → ℕ → Type 0
 Inv chunk samples line d out₀ sends₀ out sends j =
     (length out ≡ length out₀)
     × (length sends ≡ length sends₀)
@@ -65,10 +66,10 @@ Inv chunk samples line d out₀ sends₀ out sends j =
     × AllRunning (chunk .frames) out
 
 abbrev μ-gather : Measures 10 gather-kinds.ps ℕ
-μ-gather κs a = 2 * a .1 .1 .1 .1 .1 .1 .1 .1 .1 .0 + 1
+μ-gather κs a = 2 * a .1 .1 .1 .1 .1 .1 .1 .1 .1 .1 .0 + 1
 
 abbrev μ-process : Measures 10 process-kinds.ps ℕ
-μ-process κs a = 2 * a .1 .1 .1 .1 .1 .1 .1 .1 .1 .0
+μ-process κs a = 2 * a .1 .1 .1 .1 .1 .1 .1 .1 .1 .1 .0
 
 abbrev gather-at : ℕ → In 10 gather-kinds.ps
 gather-at t = and 10 gather-kinds.ps (is 10 gather-kinds.ps μ-gather t) gather.Pre
@@ -83,11 +84,11 @@ abbrev process-below : ℕ → In 10 process-kinds.ps
 process-below t = and 10 process-kinds.ps (falls 10 process-kinds.ps _<_ μ-process t) process.Pre
 
 abbrev gather-Inv-loop : gather-lts.InvT-loop
-gather-Inv-loop places levels amplitudes sub-tracks sounds parts table samples line depth out₀ sends₀ j₀ out sends j =
-    Inv (chunkFrom places levels amplitudes) samples line depth out₀ sends₀ out sends j
+gather-Inv-loop places levels amplitudes sub-tracks sounds parts table samples visitor line depth out₀ sends₀ j₀ out sends j =
+    Inv (chunkFrom places levels amplitudes) (recordings samples visitor) line depth out₀ sends₀ out sends j
 
 abbrev gather-μ-loop : gather-lts.MeasureT-loop
-gather-μ-loop places levels amplitudes sub-tracks sounds parts table samples line depth out₀ sends₀ j₀ out sends j =
+gather-μ-loop places levels amplitudes sub-tracks sounds parts table samples visitor line depth out₀ sends₀ j₀ out sends j =
     j
 
 gather-last-line-requires : (t : ℕ) → gather-lts.Need-last-line-requires (
@@ -100,7 +101,7 @@ gather-last-line-requires : (t : ℕ) → gather-lts.Need-last-line-requires (
   add-sounds-reads.Asked,
   add-sounds-reads.Learnt,
 ) (gather-at t) gather.Post gather-Inv-loop gather-μ-loop
-gather-last-line-requires t c κs = omega (arith, c .before .before .before .pre .1 .1 .1 .1 .1 .0 .1, c .before .before .before .pre .1 .1 .0 .tracks)
+gather-last-line-requires t c κs = omega (arith, c .before .before .before .before .pre .1 .1 .1 .1 .1 .0 .1, c .before .before .before .before .pre .1 .1 .0 .tracks)
 
 gather-loop-holds : (t : ℕ) → gather-lts.Need-loop-holds (
   last-line-reads.Asked,
@@ -114,10 +115,10 @@ gather-loop-holds : (t : ℕ) → gather-lts.Need-loop-holds (
 ) (gather-at t) gather.Post gather-Inv-loop gather-μ-loop
 unfolding subTrackLinks
 gather-loop-holds t c =
-    let start = c .before .before .before .before in
+    let start = c .before .before .before .before .before in
     let args = start .args in
     let chunk = chunkFrom (args .places .now) (args .levels .now) (args .amplitudes .now) in
-    let samples = args .samples .now in
+    let samples = recordings (args .samples .now) (args .visitor .now) in
     let n = chunk .frames in
     let L = scratch 0 n in
     let line = args .line in
@@ -145,7 +146,7 @@ gather-process-requires : (t : ℕ) → gather-lts.Need-process-requires (
   add-sounds-reads.Learnt,
 ) (gather-at t) gather.Post gather-Inv-loop gather-μ-loop
 gather-process-requires t c κs =
-    let start = c .before .before .before .before .before .before .before .before in
+    let start = c .before .before .before .before .before .before .before .before .before in
     let l = c .before .before .before in
     let inv = l .loop .inv in
     let pre = start .pre .1 in
@@ -162,7 +163,7 @@ gather-line-before-requires : (t : ℕ) → gather-lts.Need-line-before-requires
   add-sounds-reads.Asked,
   add-sounds-reads.Learnt,
 ) (gather-at t) gather.Post gather-Inv-loop gather-μ-loop
-gather-line-before-requires t c κs = (c .before .before .before .before .before .before .before .loop-test .taken, omega (arith, c .before .before .before .before .before .before .before .before .loop .inv .2 .few, c .before .before .before .before .before .before .before .before .before .before .before .before .before .pre .1 .1 .0 .tracks))
+gather-line-before-requires t c κs = (c .before .before .before .before .before .before .before .loop-test .taken, omega (arith, c .before .before .before .before .before .before .before .before .loop .inv .2 .few, c .before .before .before .before .before .before .before .before .before .before .before .before .before .before .pre .1 .1 .0 .tracks))
 
 gather-loop-less : (t : ℕ) → gather-lts.Need-loop-less (
   last-line-reads.Asked,
@@ -176,10 +177,10 @@ gather-loop-less : (t : ℕ) → gather-lts.Need-loop-less (
 ) (gather-at t) gather.Post gather-Inv-loop gather-μ-loop
 unfolding subTrackLinks
 gather-loop-less t c =
-    let start = c .before .before .before .before .before .before .before .before .before .before .before .before .before .before in
+    let start = c .before .before .before .before .before .before .before .before .before .before .before .before .before .before .before in
     let args = start .args in
     let chunk = chunkFrom (args .places .now) (args .levels .now) (args .amplitudes .now) in
-    let samples = args .samples .now in
+    let samples = recordings (args .samples .now) (args .visitor .now) in
     let n = chunk .frames in
     let L = scratch 0 n in
     let line = args .line in
@@ -207,10 +208,10 @@ gather-loop-again : (t : ℕ) → gather-lts.Need-loop-again (
 ) (gather-at t) gather.Post gather-Inv-loop gather-μ-loop
 unfolding subTrackLinks
 gather-loop-again t c =
-    let start = c .before .before .before .before .before .before .before .before .before .before .before .before .before .before in
+    let start = c .before .before .before .before .before .before .before .before .before .before .before .before .before .before .before in
     let args = start .args in
     let chunk = chunkFrom (args .places .now) (args .levels .now) (args .amplitudes .now) in
-    let samples = args .samples .now in
+    let samples = recordings (args .samples .now) (args .visitor .now) in
     let n = chunk .frames in
     let L = scratch 0 n in
     let line = args .line in
@@ -249,7 +250,7 @@ gather-add-sounds-requires : (t : ℕ) → gather-lts.Need-add-sounds-requires (
   add-sounds-reads.Learnt,
 ) (gather-at t) gather.Post gather-Inv-loop gather-μ-loop
 gather-add-sounds-requires t c κs =
-    let start = c .before .before .before .before .before .before .before in
+    let start = c .before .before .before .before .before .before .before .before in
     let ok = start .pre .1 .1 .0 in
     (ok, (start .pre .1 .1 .1 .0 .1, (omega (arith, c .before .before .loop .inv .0, start .pre .1 .1 .1 .1 .1 .1 .0), omega (arith, start .pre .1 .1 .1 .1 .1 .0 .1, ok .tracks))))
 
@@ -288,10 +289,10 @@ gather-returns : (t : ℕ) → gather-lts.Need-returns (
   add-sounds-reads.Learnt,
 ) (gather-at t) gather.Post gather-Inv-loop gather-μ-loop
 gather-returns t c =
-    let start = c .before .before .before .before .before .before .before .before .before .before in
+    let start = c .before .before .before .before .before .before .before .before .before .before .before in
     let args = start .args in
     let chunk = chunkFrom (args .places .now) (args .levels .now) (args .amplitudes .now) in
-    let samples = args .samples .now in
+    let samples = recordings (args .samples .now) (args .visitor .now) in
     let n = chunk .frames in
     let L = scratch 0 n in
     let line = args .line in
@@ -330,7 +331,7 @@ process-sub-track-at : (t : ℕ) → process-lts.Need-sub-track-at (
   add-frames-reads.Asked,
   add-frames-reads.Learnt,
 ) (process-at t) process.Post
-process-sub-track-at t c = c .before .before .before .before .pre .1 .1 .1 .1 .1 .0 .0
+process-sub-track-at t c = c .before .before .before .before .before .pre .1 .1 .1 .1 .1 .0 .0
 
 process-track-at-requires : (t : ℕ) → process-lts.Need-track-at-requires (
   track-at-reads.Asked,
@@ -345,7 +346,7 @@ process-track-at-requires : (t : ℕ) → process-lts.Need-track-at-requires (
   add-frames-reads.Learnt,
 ) (process-at t) process.Post
 process-track-at-requires t c κs =
-    let start = c .before .before .before .before in
+    let start = c .before .before .before .before .before in
     omega (arith, start .pre .1 .1 .1 .1 .1 .0 .0, start .pre .1 .1 .1 .1 .1 .0 .1, start .pre .1 .1 .0 .tracks)
 
 process-returns : (t : ℕ) → process-lts.Need-returns (
@@ -361,10 +362,10 @@ process-returns : (t : ℕ) → process-lts.Need-returns (
   add-frames-reads.Learnt,
 ) (process-at t) process.Post
 process-returns t c =
-    let start = c .before .before .before .before .before .before in
+    let start = c .before .before .before .before .before .before .before in
     let args = start .args in
     let chunk = chunkFrom (args .places .now) (args .levels .now) (args .amplitudes .now) in
-    let samples = args .samples .now in
+    let samples = recordings (args .samples .now) (args .visitor .now) in
     let n = chunk .frames in
     let L = scratch 0 n in
     let line = args .line in
@@ -385,10 +386,10 @@ process-returns-2 : (t : ℕ) → process-lts.Need-returns-2 (
   add-frames-reads.Learnt,
 ) (process-at t) process.Post
 process-returns-2 t c =
-    let start = c .before .before .before .before .before .before .before .before in
+    let start = c .before .before .before .before .before .before .before .before .before in
     let args = start .args in
     let chunk = chunkFrom (args .places .now) (args .levels .now) (args .amplitudes .now) in
-    let samples = args .samples .now in
+    let samples = recordings (args .samples .now) (args .visitor .now) in
     let n = chunk .frames in
     let L = scratch 0 n in
     let line = args .line in
@@ -440,7 +441,7 @@ process-gather-requires : (t : ℕ) → process-lts.Need-gather-requires (
 ) (process-at t) process.Post
 unfolding ofBits ofInt
 process-gather-requires t c κs =
-    let start = c .before .before .before .before .before .before .before .before .before .before in
+    let start = c .before .before .before .before .before .before .before .before .before .before .before in
     let args = start .args in
     let chunk = chunkFrom (args .places .now) (args .levels .now) (args .amplitudes .now) in
     let pre = start .pre .1 in
@@ -475,10 +476,10 @@ process-apply-volume-requires : (t : ℕ) → process-lts.Need-apply-volume-requ
 ) (process-at t) process.Post
 unfolding ofBits ofInt
 process-apply-volume-requires t c κs =
-    let start = c .before .before .before .before .before .before .before .before .before .before .before .before .before .before .before in
+    let start = c .before .before .before .before .before .before .before .before .before .before .before .before .before .before .before .before in
     let args = start .args in
     let chunk = chunkFrom (args .places .now) (args .levels .now) (args .amplitudes .now) in
-    let samples = args .samples .now in
+    let samples = recordings (args .samples .now) (args .visitor .now) in
     let n = chunk .frames in
     let L = scratch 0 n in
     let line = args .line in
@@ -519,10 +520,10 @@ process-add-routes-requires : (t : ℕ) → process-lts.Need-add-routes-requires
 ) (process-at t) process.Post
 unfolding ofBits ofInt
 process-add-routes-requires t c κs =
-    let start = c .before .before .before .before .before .before .before .before .before .before .before .before .before .before .before .before .before .before .before in
+    let start = c .before .before .before .before .before .before .before .before .before .before .before .before .before .before .before .before .before .before .before .before in
     let args = start .args in
     let chunk = chunkFrom (args .places .now) (args .levels .now) (args .amplitudes .now) in
-    let samples = args .samples .now in
+    let samples = recordings (args .samples .now) (args .visitor .now) in
     let n = chunk .frames in
     let L = scratch 0 n in
     let line = args .line in
@@ -562,10 +563,10 @@ process-add-frames-requires : (t : ℕ) → process-lts.Need-add-frames-requires
 ) (process-at t) process.Post
 unfolding ofBits ofInt
 process-add-frames-requires t c κs =
-    let start = c .before .before .before .before .before .before .before .before .before .before .before .before .before .before .before .before .before .before .before .before .before .before .before .before in
+    let start = c .before .before .before .before .before .before .before .before .before .before .before .before .before .before .before .before .before .before .before .before .before .before .before .before .before in
     let args = start .args in
     let chunk = chunkFrom (args .places .now) (args .levels .now) (args .amplitudes .now) in
-    let samples = args .samples .now in
+    let samples = recordings (args .samples .now) (args .visitor .now) in
     let n = chunk .frames in
     let L = scratch 0 n in
     let line = args .line in
@@ -619,10 +620,10 @@ process-returns-3 : (t : ℕ) → process-lts.Need-returns-3 (
 ) (process-at t) process.Post
 unfolding ofBits ofInt
 process-returns-3 t c =
-    let start = c .before .before .before .before .before .before .before .before .before .before .before .before .before .before .before .before .before .before .before .before .before .before .before .before .before .before .before in
+    let start = c .before .before .before .before .before .before .before .before .before .before .before .before .before .before .before .before .before .before .before .before .before .before .before .before .before .before .before .before in
     let args = start .args in
     let chunk = chunkFrom (args .places .now) (args .levels .now) (args .amplitudes .now) in
-    let samples = args .samples .now in
+    let samples = recordings (args .samples .now) (args .visitor .now) in
     let n = chunk .frames in
     let L = scratch 0 n in
     let line = args .line in
@@ -632,7 +633,7 @@ process-returns-3 t c =
     let read = c .before .before .before .before .before .before .before .before .before .before .before .before .before .before .before .before .before .before .before .before .before .before .track-at .ensures in
     let moves = ap (λ (t : ChunkTrack). t .advancing) (sym read) ∙ not-false _ (c .before .before .before .before .before .before .before .before .before .before .before .before .before .before .before .before .before .before .before .if2 .left) in
     let made = c .before .before .before .before .before .before .before .before .before .before .before .before .before .before .before .before .gather .ensures in
-    let sum = c .before .before .before .before .before .before .before .before .before .before .before .before .before .before .before .before .gather .last .1 .1 .1 .1 .1 .1 .1 .1 .1 .1 .0 in
+    let sum = c .before .before .before .before .before .before .before .before .before .before .before .before .before .before .before .before .gather .last .1 .1 .1 .1 .1 .1 .1 .1 .1 .1 .1 .0 in
     let scaled = c .before .before .before .before .before .before .before .before .before .before .before .apply-volume .ensures ∙ ap (λ (t : ChunkTrack). withFrames L (trackScaled t n) sum) read in
     let out = c .before .before .before .before .before .before .before .before .before .before .before .apply-volume .last .0 in
     let has = track-mixed (args .depth) d chunk samples line deep silent (omega (arith, ok .short)) moves (made .0) scaled in

@@ -27,12 +27,12 @@ abbrev Inv : Chunk → ℕ → (ℕ → Frame) → List Float → List Float →
 Inv chunk line given sends₀ sends r = (r ≤ chunk .«route_count») × (length sends ≡ length sends₀) × (sends ≡ upto (turns (allSends (chunk .frames)) (routeStep chunk line given)) r sends₀)
 
 abbrev Inv-loop : tie.InvT-loop
-Inv-loop sends₀ out places levels amplitudes samples line frames r₀ sends r =
+Inv-loop sends₀ out places levels amplitudes samples visitor line frames r₀ sends r =
     let chunk = chunkFrom places levels amplitudes in
     Inv chunk line (frameAt (scratch 0 (chunk .frames)) out) sends₀ sends r
 
 abbrev μ-loop : tie.MeasureT-loop
-μ-loop sends₀ out places levels amplitudes samples line frames r₀ sends r = chunkFrom places levels amplitudes .«route_count» - r
+μ-loop sends₀ out places levels amplitudes samples visitor line frames r₀ sends r = chunkFrom places levels amplitudes .«route_count» - r
 
 element-copy-out-frames : tie.Need-element-copy-out-frames Inv-loop μ-loop
 element-copy-out-frames c = search needs
@@ -44,25 +44,25 @@ element-copy-out-if1 : tie.Need-element-copy-out-if1 Inv-loop μ-loop
 element-copy-out-if1 c = search needs
 
 route-at-requires : tie.Need-route-at-requires Inv-loop μ-loop
-route-at-requires c κs = omega (arith, c .if1 .taken, c .before .before .before .before .before .before .before .pre .0 .routes)
+route-at-requires c κs = omega (arith, c .if1 .taken, c .before .before .before .before .before .before .before .before .pre .0 .routes)
 
 sub-first : tie.Need-sub-first Inv-loop μ-loop
 sub-first c =
-    let start = c .before .before .before .before .before .before .before .before .before .before .before in
+    let start = c .before .before .before .before .before .before .before .before .before .before .before .before in
     let send = ap (λ (x : ChunkRoute). x .send) (c .before .before .before .route-at .ensures) in
     let routed = start .pre .0 .routed (c .before .before .before .before .before .before .loop .r) (c .before .before .before .before .if1 .taken) in
     search (needs, send, routed .0, routed .1)
 
 mul-first : tie.Need-mul-first Inv-loop μ-loop
 mul-first c =
-    let start = c .before .before .before .before .before .before .before .before .before .before .before in
+    let start = c .before .before .before .before .before .before .before .before .before .before .before .before in
     let send = ap (λ (x : ChunkRoute). x .send) (c .before .before .before .route-at .ensures) in
     let routed = start .pre .0 .routed (c .before .before .before .before .before .before .loop .r) (c .before .before .before .before .if1 .taken) in
     search (needs, send, routed .0, routed .1)
 
 add-scaled-requires : tie.Need-add-scaled-requires Inv-loop μ-loop
 add-scaled-requires c κs =
-    let start = c .before .before .before .before .before .before .before .before .before .before .before .before .before in
+    let start = c .before .before .before .before .before .before .before .before .before .before .before .before .before .before in
     let send = ap (λ (x : ChunkRoute). x .send) (c .before .before .before .before .before .route-at .ensures) in
     let routed = start .pre .0 .routed (c .before .before .before .before .before .before .before .before .loop .r) (c .before .before .before .before .before .before .if1 .taken) in
     (omega (arith, c .before .before .before .before .before .before .before .before .loop .inv .1, start .pre .1 .1, send, routed .0, routed .1, start .pre .0 .short), start .pre .1 .0)
@@ -76,7 +76,7 @@ loop-less c = search needs
 loop-again : tie.Need-loop-again Inv-loop μ-loop
 loop-again c =
     let l = c .before .before .before .before .before in
-    let start = c .before .before .before .before .before .before .before .before .before .before in
+    let start = c .before .before .before .before .before .before .before .before .before .before .before in
     let args = start .args in
     let chunk = chunkFrom (args .places .now) (args .levels .now) (args .amplitudes .now) in
     let given : ℕ → Frame = frameAt (scratch 0 (chunk .frames)) (args .out .now) in
@@ -100,7 +100,7 @@ same-length c = search needs
 returns : tie.Need-returns Inv-loop μ-loop
 returns c =
     let l = c .before .before in
-    let start = c .before .before .before .before .before .before .before in
+    let start = c .before .before .before .before .before .before .before .before in
     let args = start .args in
     let chunk = chunkFrom (args .places .now) (args .levels .now) (args .amplitudes .now) in
     let given : ℕ → Frame = frameAt (scratch 0 (chunk .frames)) (args .out .now) in
