@@ -23,8 +23,17 @@ def rows(scene):
     return sum(len(scene.tables[name]) for name in TABLES)
 
 
+def sampled(scene):
+    return len(scene.samples) + len(scene.visitor)
+
+
+def work(scene):
+    """About how much there is to compute: a declaration's steps are limited."""
+    return 4 * rows(scene) + sampled(scene) + 2 * sum(row[2] for row in scene.sounds)
+
+
 def small(pair, most_samples):
-    return all(rows(s) <= 26 and len(s.samples) <= most_samples and s.output_length() <= 300 for s in pair.scenes)
+    return all(rows(s) <= 26 and sampled(s) <= most_samples and s.output_length() <= 300 for s in pair.scenes)
 
 
 def silenced(pair):
@@ -44,22 +53,25 @@ FEATURES = {
     "other line numbers": lambda p: p.chosen[0] != p.chosen[1],
     "other counts of lines inside": lambda p: rows(p.scenes[0]) != rows(p.scenes[1]),
     "other sample lengths": lambda p: len(p.scenes[0].samples) != len(p.scenes[1].samples),
+    "other visitor's lengths": lambda p: len(p.scenes[0].visitor) != len(p.scenes[1].visitor),
+    "sounds inside from other buffers": lambda p: pairs.origins(p.scenes[0]) != pairs.origins(p.scenes[1]),
     "nothing chosen": lambda p: not p.chosen[0],
     "a held track whose children have sends": sends_inside,
 }
 
 
-def corner_scene(inside, samples):
+def corner_scene(inside, samples, visitor):
     """Tracks by name, four of which are silent, each at a corner of the words: `deep` is muted at depth 4 and has a volume order of exactly -60 dB,
     `muted` is not held, `held` is at depth 3 and not muted, `below` is held below a track that is paused itself. `inside` has the lines that may
-    differ: tracks by (name, parent), and sounds by (track, first, count)."""
+    differ: tracks by (name, parent), and sounds by (track, first, count, from). The last sound outside is from `inside["last"]`: the visitor has
+    its frames too."""
     outside = [("a", None, 0), ("b", "a", 0), ("c", "b", 0), ("deep", "c", -60000), ("muted", "a", -60000), ("held", "b", 0), ("paused", None, 0)]
     outside.append(("below", "paused", 0))
     lines = []
     for name, parent, volume in outside:
         lines += [(name, parent, volume)] + [(inner, name, -300) for inner, owner in inside["tracks"] if owner == name]
     line = {name: i for i, (name, _, _) in enumerate(lines, 1)} | {None: 0}
-    sounds = [("a", 0, 6), ("c", 2, 4), ("b", 1, 5)] + inside["sounds"]
+    sounds = [("a", 0, 6, 0), ("c", 2, 4, 0), ("b", *inside["last"])] + inside["sounds"]
     pauses = [[0, 4, line[name], 0, 0, 0, 0, 0, 0, 0] for name in ("held", "below", "paused")]
     volumes = [[1, 1, line["deep"], -60000, 0, 0, 0, 2, 0, 0], [0, 1, line["muted"], -61000, 0, 1, 0, 1, 1, 2], [1, 0, 0, -3000, 0, 0, 0, 1, 0, 0]]
     made = pairs.Scene(
@@ -67,9 +79,10 @@ def corner_scene(inside, samples):
         tracks=[[line[parent], volume] for _, parent, volume in lines],
         sends=[[0]],
         routes=[[line["b"], 1, -2000], [line["muted"], 1, 0]],
-        sounds=[[line[track], first, count] for track, first, count in sounds],
+        sounds=[[line[track], *place] for track, *place in sounds],
         orders=pauses + volumes,
         samples=[pairs.bits(x / 16) for x in samples],
+        visitor=[pairs.bits(x / 16) for x in visitor],
     )
     return made, [line[name] for name in ("deep", "muted", "held", "below")]
 
@@ -77,9 +90,11 @@ def corner_scene(inside, samples):
 def corners():
     """A pair with all of them at once, so that a definition that asks more of silent tracks than it should says no to it."""
     heard = [8, -4, 3, 5, -7, 2, 6, 1, -2, 4, 9, -3]
-    one = corner_scene({"tracks": [("x", "muted")], "sounds": [("deep", 0, 4), ("x", 1, 3), ("held", 2, 2)]}, heard + [1, 1])
+    inside = {"tracks": [("x", "muted")], "sounds": [("deep", 0, 4, 0), ("x", 1, 3, 1), ("held", 2, 2, 0)], "last": (1, 5, 0)}
+    one = corner_scene(inside, heard + [1, 1], [5, 5, 5, 5, 5, 5, 5, 5])
     tracks = [("x", "muted"), ("y", "held"), ("z", "below")]
-    other = corner_scene({"tracks": tracks, "sounds": [("muted", 5, 2), ("y", 6, 2), ("z", 0, 6), ("below", 6, 1)]}, heard + [16, -16, 15, 7])
+    inside = {"tracks": tracks, "sounds": [("muted", 5, 2, 1), ("y", 6, 2, 0), ("z", 0, 6, 1), ("below", 6, 1, 0)], "last": (2, 5, 1)}
+    other = corner_scene(inside, heard + [16, -16, 15, 7], [1, 2, 3, 4] + heard[2:])
     return pairs.Pair([one[0], other[0]], [one[1], other[1]])
 
 
@@ -90,7 +105,7 @@ def stored():
         if min(counts.values()) >= EACH:
             break
         pair = pairs.from_seed(SEED, n)
-        if not small(pair, 100):
+        if not small(pair, 160):
             continue
         here = [name for name, test in FEATURES.items() if test(pair)]
         if any(counts[name] < EACH for name in here):
@@ -106,7 +121,7 @@ def stored():
         best = None
         for n in range(400):
             pair = pairs.from_seed(SEED, n, kind)
-            size = sum(rows(s) + len(s.samples) for s in pair.scenes)
+            size = sum(map(work, pair.scenes))
             if best is None or size < best[0]:
                 best = (size, pair)
         assert not pairs.alike(best[1])
@@ -128,9 +143,9 @@ def table(lines):
 
 def side(scene, chosen):
     tables = listed("(" + table(scene.tables[name]) + ")" for name in TABLES)
-    samples = listed(str(b) for b in scene.samples)
+    samples, visitor = (listed(str(b) for b in buffer) for buffer in scene.recordings())
     lines = listed(str(t - 1) for t in chosen)
-    return f"record {{ tables = {tables}; bits = {samples}; chosen = {lines} }}"
+    return f"record {{ tables = {tables}; bits = {samples}; visiting = {visitor}; chosen = {lines} }}"
 
 
 def named(name):
@@ -170,6 +185,7 @@ Each f (p ∷ l) = T (f p) × Each f l
 HEAD = CLAIM + """use mathlib.Core.Bool.{not}
 use lib.Dec.{T}
 use lib.Ieee.{toBits, ofBits}
+use Rattle.recordings.specs.Recordings.{recording}
 use Rattle.laws.specs.Loop.{upto, changed}
 use Rattle.laws.specs.Kept.{rank, keptOf}
 use Rattle.scene_tables.specs.Bytes.{every}
@@ -182,7 +198,7 @@ use Rattle.test_alike_pairs.specs.Pairs.{PAIRS}
 use Rattle.test_alike_pairs.specs.Computed.{Each}
 """
 UNFOLDED = (
-    "alikePair choiceOf alike sameTables same unplaced chosenLeft framesLeft sameBits silentChoice toBits ofBits leftTables linesLeft keptOf changed "
+    "alikePair choiceOf recording alike sameTables same unplaced chosenLeft framesLeft sameBits silentChoice toBits ofBits leftTables linesLeft keptOf changed "
     "renumbered renumberedOrder newLine rank insideWithin inside removedTrack removedRoute removedSound removedOrder namesRemoved parentOf muted silentVolume names "
     "held pausesOrResumes isHolding every upto"
 )

@@ -13,18 +13,27 @@ def made(kind, seed, count):
 
 
 def split(stream):
-    """The cases of a stream: kind, scene, samples, output's length."""
+    """The cases of a stream: kind, scene, the house's samples, the visitor's, output's length."""
     at, cases = 0, []
     while at < len(stream):
-        kind, scene, samples, length = struct.unpack_from("<4I", stream, at)
-        at += 16
-        cases.append((kind, stream[at : at + scene], stream[at + scene : at + scene + samples], length))
-        at += scene + samples
+        kind, *sizes, length = struct.unpack_from("<5I", stream, at)
+        at += 20
+        files = []
+        for size in sizes:
+            files.append(stream[at : at + size])
+            at += size
+        cases.append((kind, *files, length))
     return cases
 
 
+def stored(folder):
+    """The scene file and the two sample files of a folder; one that is not there is empty."""
+    paths = [folder / name for name in ("scene.txt", "samples.raw", "visitor.raw")]
+    return [path.read_bytes() if path.exists() else b"" for path in paths]
+
+
 def joined(cases):
-    return b"".join(struct.pack("<4I", k, len(a), len(b), n) + a + b for k, a, b, n in cases)
+    return b"".join(struct.pack("<5I", kind, *map(len, files), length) + b"".join(files) for kind, *files, length in cases)
 
 
 def answers(program, cases):
@@ -42,7 +51,7 @@ def answers(program, cases):
 def as_library(oracle, cases):
     """Every case as one of the library. What the program is asked has the length that it answers with; a refused one keeps 0."""
     asked = answers([oracle, "batch"], cases)
-    return [(1, a, b, n if k == 1 else len(samples)) for (k, a, b, n), (_, samples) in zip(cases, asked)]
+    return [(1, *files, n if k == 1 else len(samples)) for (k, *files, n), (_, samples) in zip(cases, asked)]
 
 
 def store(crate, files, check):

@@ -24,11 +24,12 @@ def raw(samples):
     return struct.pack(f"<{len(samples)}f", *samples)
 
 
-def in_folder(scene, samples, *command):
-    """What a command prints in a folder with the two files."""
+def in_folder(scene, samples, *command, visitor=b""):
+    """What a command prints in a folder with the three files."""
     with tempfile.TemporaryDirectory() as folder:
         pathlib.Path(folder, "scene.txt").write_text(scene, newline="\n")
         pathlib.Path(folder, "samples.raw").write_bytes(samples)
+        pathlib.Path(folder, "visitor.raw").write_bytes(visitor)
         return subprocess.run([word.replace("FOLDER", folder) for word in command], cwd=folder, capture_output=True, text=True, check=True).stdout
 
 
@@ -54,13 +55,18 @@ def files_of(scene, example):
         scene = ""
     if "last line feed is missing" in example:
         scene = scene[:-1]
-    given = re.search(r"samples are `([^`]*)`", example)
+    given = re.search(r"the samples are `([^`]*)`", example)
     if given:
         samples = raw([float(x) for x in given[1].split()])
     given = re.search(r"`samples.raw` has (\d+) bytes", example)
     if given:
         samples = (samples + bytes(int(given[1])))[:int(given[1])]
-    return changed(scene, example), samples
+    given = re.search(r"`visitor.raw` has (\d+) bytes", example)
+    visitor = bytes(int(given[1])) if given else b""
+    given = re.search(r"the visitor's samples are `([^`]*)`", example)
+    if given:
+        visitor = raw([float(x) for x in given[1].split()])
+    return changed(scene, example), samples, visitor
 
 
 def refusal(scene, example):
@@ -72,7 +78,8 @@ def refusal(scene, example):
     if given:
         bits, = struct.unpack("<I", struct.pack("<f", float(given[1])))
         return subprocess.run([oracle, "leaf"], input=f"amplitude {bits}\n", capture_output=True, text=True, check=True).stdout.strip()
-    text = in_folder(*files_of(scene, example), program)
+    changed_scene, samples, visitor = files_of(scene, example)
+    text = in_folder(changed_scene, samples, program, visitor=visitor)
     return text.split("\n")[1] if text.startswith("refused\n") else text
 
 
@@ -92,7 +99,8 @@ def main():
     first, show = re.findall(r"^```scene\n(.*?)^```", page, re.M | re.S)
     printed, = re.findall(r"^```printed\n(.*?)^```", page, re.M | re.S)
     expect("the first scene", in_folder(first, raw(FIRST), program), printed)
-    expect("examples/first", [(ROOT / "examples/first/scene.txt").read_text(), (ROOT / "examples/first/samples.raw").read_bytes()], [first, raw(FIRST)])
+    files = (ROOT / "examples/first/scene.txt").read_text(), (ROOT / "examples/first/samples.raw").read_bytes()
+    expect("examples/first", list(files), [first, raw(FIRST)])
     check_show(page, show)
     count = 0
     sections = re.split(r"^## ", (ROOT / "docs/REFUSALS.md").read_text(), flags=re.M)[1:]

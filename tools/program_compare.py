@@ -3,8 +3,8 @@
 
     tools/program_compare.py ORACLE PROGRAM [--seed N] [--scenes N] [--damaged N] [--pairs N]
 
-ORACLE is oracle/target/release/oracle, PROGRAM target/bin/render. Each case of oracle/scripts/cases.py becomes a folder with scene.txt and
-samples.raw; a file without bytes is left out in every second folder, since one that won't open counts as empty. The oracle writes what the
+ORACLE is oracle/target/release/oracle, PROGRAM target/bin/render. Each case of oracle/scripts/cases.py becomes a folder with scene.txt,
+samples.raw and visitor.raw; a file without bytes is left out in every second folder, since one that won't open counts as empty. The oracle writes what the
 program must print (`oracle folders`), the program is run in the folder. Of a pair the two texts must be equal to each other too. Exit status 1
 where anything differs; the first folder that does is kept in target/differs.
 """
@@ -22,10 +22,10 @@ MOST = 200  # folders at a time
 
 
 def lay_out(folder, cases):
-    for i, (_, scene, samples, _) in enumerate(cases):
+    for i, (_, *files, _) in enumerate(cases):
         case = folder / f"{i:03}"
         case.mkdir()
-        for name, content in (("scene.txt", scene), ("samples.raw", samples)):
+        for name, content in zip(("scene.txt", "samples.raw", "visitor.raw"), files):
             if content or i % 2 == 0:
                 (case / name).write_bytes(content)
         yield case

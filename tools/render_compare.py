@@ -23,19 +23,19 @@ def largest():
     """The largest scene: every table full but the orders, 8 channels, 1,024 blocks of 512 frames."""
     tracks = [(0 if t % 4 == 0 else t, -3000 - 10 * t) for t in range(32)]
     routes = [(r // 2 + 1, (r + r // 16) % 8 + 1, -6000) for r in range(64)]
-    sounds = [(k % 33, 16 * k, 4096 - 16 * k) for k in range(64)]
+    sounds = [(k % 33, 16 * k, 4096 - 16 * k, k % 2) for k in range(64)]
     tables = (
         ("rate channels buffer block blocks volume", [(48000, 8, 128, 512, 1024, 0)]),
         ("unit speed ticking", [(1, 2000, 1)] * 8),
         ("parent volume", tracks),
         ("volume", [(-2000,)] * 8),
         ("track send volume", routes),
-        ("track first count", sounds),
+        ("track first count from", sounds),
         ("block kind index volume clock when part millis easing power", []),
     )
     file = "\n".join(names + "\n" + "".join(" ".join(map(str, line)) + "\n" for line in lines) for names, lines in tables)
-    samples = b"".join(struct.pack("<f", ((i * 7919) % 2001 - 1000) / 1000) for i in range(8192))
-    return [(1, file.encode(), samples, 512 * 1024 * 8)]
+    house, visitor = (b"".join(struct.pack("<f", ((i * step) % 2001 - 1000) / 1000) for i in range(8192)) for step in (7919, 7907))
+    return [(1, file.encode(), house, visitor, 512 * 1024 * 8)]
 
 
 def main():

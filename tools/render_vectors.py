@@ -15,7 +15,7 @@ import sys
 
 import alike_pairs
 import scene_vectors
-from case_stream import answers, as_library, joined, split, store
+from case_stream import answers, as_library, joined, split, store, stored
 
 ROOT = pathlib.Path(__file__).resolve().parent.parent
 CRATE = ROOT / "crates/test_render"
@@ -29,10 +29,15 @@ def tables_of(scene):
     return [[line.split() for line in block.split("\n")[1:] if line] for block in scene.decode().split("\n\n")]
 
 
+def sampled(case):
+    """The bytes of both sample files."""
+    return len(case[2]) + len(case[3])
+
+
 def marks(scene):
     """What a scene is an example of."""
     tables = tables_of(scene)
-    found = {("channels", tables[0][0][1])}
+    found = {("channels", tables[0][0][1])} | {("from", sound[3]) for sound in tables[5]}
     for order in tables[6]:
         found |= {("kind", order[1]), ("easing", order[8], order[9])}
         found |= {("start", "clock" if order[4] != "0" else "delay" if order[5] != "0" else "at once")}
@@ -40,37 +45,36 @@ def marks(scene):
 
 
 def chosen(oracle):
-    stored = [
-        (0, (folder / "scene.txt").read_bytes(), (folder / "samples.raw").read_bytes(), 0) for folder in sorted((ROOT / "oracle/scenes").iterdir())
-    ]
-    stored = [case for case in as_library(oracle, stored) if case[3] <= 600 and len(case[2]) <= 16384]
+    named = [(0, *stored(folder), 0) for folder in sorted((ROOT / "oracle/scenes").iterdir())]
+    named = [case for case in as_library(oracle, named) if case[-1] <= 600 and sampled(case) <= 16384]
     command = [sys.executable, ROOT / "oracle/scripts/cases.py", "scenes", str(SEED), str(MADE)]
     made = as_library(oracle, split(subprocess.run(command, stdout=subprocess.PIPE, check=True).stdout))
-    made = [case for case in made if 0 < case[3] <= 200 and len(case[2]) <= 1600]
-    seen, picked, others = set().union(*(marks(case[1]) for case in stored if case[3])), [], []
+    made = [case for case in made if 0 < case[-1] <= 200 and sampled(case) <= 2400]
+    seen, picked, others = set().union(*(marks(case[1]) for case in named if case[-1])), [], []
     for case in made:
         new = marks(case[1]) - seen
         seen |= new
         (picked if new else others).append(case)
-    cases = stored + picked + others[: max(0, WANTED - len(picked))]
+    cases = named + picked + others[: max(0, WANTED - len(picked))]
     missing = {("channels", n) for n in "1238"} | {("kind", n) for n in "012345"} | {("easing", "0", "0")}
     missing |= {("easing", e, p) for e in "123" for p in "12345678"}
     missing |= {("start", how) for how in ("at once", "delay", "clock")}
-    missing -= set().union(*(marks(case[1]) for case in cases if case[3]))
+    missing |= {("from", n) for n in "01"}
+    missing -= set().union(*(marks(case[1]) for case in cases if case[-1]))
     assert not missing, missing
     assert len(cases) >= 200, len(cases)
     return cases
 
 
 def both_cases(pair):
-    return [(1, scene.text(), scene.sample_bytes(), scene.output_length()) for scene in pair.scenes]
+    return [(1, scene.text(), *scene.sample_bytes(), scene.output_length()) for scene in pair.scenes]
 
 
 def sounding(oracle):
     """Alike pairs with some track chosen, ten samples of whose outputs sound: most stored pairs are silent."""
     made = [alike_pairs.pairs.from_seed(SEED, n) for n in range(PAIRS_MADE)]
     made = [pair for pair in made if pair.chosen[0] and alike_pairs.pairs.alike(pair)]
-    made = [both for both in map(both_cases, made) if all(case[3] <= 200 and len(case[2]) <= 1600 for case in both)]
+    made = [both for both in map(both_cases, made) if all(case[-1] <= 200 and sampled(case) <= 2400 for case in both)]
     loud = [both for both in made if sum(n % 2**31 > 0 for n in answers([oracle, "batch"], both)[0][1]) >= 10]
     assert len(loud) >= PAIRS_WANTED, len(loud)
     return loud[:PAIRS_WANTED]
@@ -92,9 +96,9 @@ def refused():
     """For each number from 1 to 10 the first three small inputs that get it, with an output of some samples: it must keep what it held."""
     picked = []
     for number in range(1, 11):
-        found = [v for v in scene_vectors.VECTORS if v[1] == number and len(v[2]) <= 2000 and 0 < v[4] <= 200][:3]
+        found = [v for v in scene_vectors.VECTORS if v[1] == number and len(v[2]) <= 2000 and 0 < v[-1] <= 200][:3]
         assert found, number
-        picked += [(1, text, struct.pack(f"<{len(samples)}f", *samples), length) for _, _, text, samples, length in found]
+        picked += [(1, text, *(struct.pack(f"<{len(samples)}f", *samples) for samples in both), length) for _, _, text, *both, length in found]
     return picked
 
 
@@ -106,7 +110,7 @@ def main():
     assert [differing(group) for group in by_group[1:3]] == [0, control]
     assert {number for number, _ in by_group[3]} == set(range(1, 11))
     cases, answered = sum(groups, []), sum(by_group, [])
-    lines = [n for case, (number, samples) in zip(cases, answered) for n in (number, *(samples if number == 0 else [HELD] * case[3]))]
+    lines = [n for case, (number, samples) in zip(cases, answered) for n in (number, *(samples if number == 0 else [HELD] * case[-1]))]
     files = {"stdin": joined(cases), "stdout": "".join(f"{n}\n" for n in lines).encode()}
     assert len(files["stdin"]) <= ROOM, len(files["stdin"])
     store(CRATE, files, sys.argv[2:] == ["--check"])

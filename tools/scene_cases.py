@@ -17,7 +17,7 @@ NAMES = [
     b"parent volume",
     b"volume",
     b"track send volume",
-    b"track first count",
+    b"track first count from",
     b"block kind index volume clock when part millis easing power",
 ]
 LIMITS = [(1, 1), (0, 8), (0, 32), (0, 8), (0, 64), (0, 64), (0, 128)]
@@ -28,7 +28,7 @@ RANGES = [
     [None, VOLUME],
     [VOLUME],
     [None, None, VOLUME],
-    [None, (0, 2147483647), (0, 2147483647)],
+    [None, (0, 2147483647), (0, 2147483647), (0, 1)],
     [(0, 1023), (0, 5), None, VOLUME, None, (0, 3600000), (0, 999), (0, 3600000), (0, 3), (0, 8)],
 ]
 TARGETS = {1: 2, 2: 3, 3: 4, 4: 2, 5: 2}
@@ -101,7 +101,7 @@ def scene(r):
     if lines[2] == 0 or lines[3] == 0:
         lines[4] = 0
     lines[4] = min(lines[4], lines[2] * lines[3])
-    frames = r.pick([0, 1, 2, 5, r.below(40)])
+    frames = [r.pick([0, 1, 2, 5, r.below(40)]) for _ in range(2)]
     tracks, depth = [], [0]
     for i in range(lines[2]):
         above = [k for k in range(i + 1) if depth[k] < 4]
@@ -113,8 +113,9 @@ def scene(r):
         pairs.add((r.among(1, lines[2]), r.among(1, lines[3])))
     sounds = []
     for _ in range(lines[5]):
-        first = r.among(0, frames)
-        sounds.append([r.below(lines[2] + 1), first, r.among(0, frames - first)])
+        origin = r.below(2)
+        first = r.among(0, frames[origin])
+        sounds.append([r.below(lines[2] + 1), first, r.among(0, frames[origin] - first), origin])
     tables = [
         [head],
         [speed(r) for _ in range(lines[1])],
@@ -124,8 +125,8 @@ def scene(r):
         sounds,
         [order(r, blocks, lines) for _ in range(lines[6])],
     ]
-    samples = [r.pick([0.0, -0.0, 1.0, -1.0, 0.5, r.among(-1000, 1000) / 1000]) for _ in range(2 * frames)]
-    return tables, samples
+    both = [[r.pick([0.0, -0.0, 1.0, -1.0, 0.5, r.among(-1000, 1000) / 1000]) for _ in range(2 * n)] for n in frames]
+    return tables, both
 
 
 def text_of(tables):
@@ -250,7 +251,7 @@ def pad(r, tables, size):
 
 def case(seed, n):
     r = Random(seed * 1000003 + n)
-    tables, samples = scene(r)
+    tables, both = scene(r)
     length = tables[0][0][3] * tables[0][0][4] * tables[0][0][1]
     for _ in range(r.pick([0, 1, 1, 1, 2, 3])):
         damage_numbers(r, tables)
@@ -264,15 +265,20 @@ def case(seed, n):
         text = pad(r, tables, r.pick([16383, 16384, 16385]))
     if r.chance(400):
         text = b""
-    if r.chance(5):
-        samples = damage_samples(r, samples)
+    for origin in range(2):
+        if r.chance(6):
+            both[origin] = damage_samples(r, both[origin])
     if r.chance(6):
         length = r.pick([0, length + 1, max(0, length - 1), length * 2])
     length = min(length, 4194305)
     if len(text) > 32768:
         text = text[:32768]
-    raw = array("f", samples).tobytes()
-    return struct.pack("<4I", 1, len(text), len(raw), length) + text + raw
+    return packed(text, *both, length)
+
+
+def packed(text, samples, visitor, length):
+    files = [text, *(array("f", buffer).tobytes() for buffer in (samples, visitor))]
+    return struct.pack("<5I", 1, *map(len, files), length) + b"".join(files)
 
 
 def stream(seed, count):

@@ -7,23 +7,16 @@ Runs the compiled program over as many copies of one case as it has room for, an
 the difference of the medians by the copies more. A case's time has the input, the samples and the output in it.
 """
 import statistics
-import struct
 import subprocess
 import sys
 import tempfile
 import time
-from array import array
 
 import scene_vectors
-from scene_cases import ROOM, text_of
+from scene_cases import ROOM, packed, text_of
 
 ROUNDS = 101
 FRAMES = 2048
-
-
-def case(text, samples, length):
-    raw = array("f", samples).tobytes()
-    return struct.pack("<4I", 1, len(text), len(raw), length) + text + raw
 
 
 def seconds(program, stream, answers):
@@ -56,8 +49,8 @@ def main(program):
         ("the longest file, refused by 3", longest, samples[:8], 8, b"3"),
         ("an empty file", b"", samples[:8], 8, b"1"),
     ):
-        copies, micros = cost(program, case(text, held, length), answer)
-        print(f"{name}: {len(text)} bytes, {len(held)} samples: {micros:.1f} microseconds a case ({copies} copies, medians of {ROUNDS})")
+        copies, micros = cost(program, packed(text, held, held, length), answer)
+        print(f"{name}: {len(text)} bytes, twice {len(held)} samples: {micros:.1f} microseconds a case ({copies} copies, medians of {ROUNDS})")
 
 
 if __name__ == "__main__":

@@ -11,7 +11,6 @@ import copy
 import pathlib
 import struct
 import sys
-from array import array
 
 import scene_cases
 from scene_cases import LIMITS, NAMES, RANGES
@@ -26,7 +25,7 @@ def base():
         [[0, 0], [1, -6000], [0, 100]],
         [[0], [-3000]],
         [[1, 1, 0], [2, 2, -100]],
-        [[0, 0, 4], [2, 1, 2]],
+        [[0, 0, 4, 0], [2, 1, 2, 1]],
         [
             [0, 0, 0, -6000, 0, 0, 0, 100, 0, 0],
             [1, 1, 2, 0, 1, 3, 500, 20, 1, 2],
@@ -39,17 +38,18 @@ def base():
 
 
 SAMPLES = [0.5, -0.25, 1.0, 0.0, -1.0, -0.0, 0.125, 0.75]
+VISITOR = [0.25, 0.125, -0.5, 1.0, 0.0, -1.0]
 VECTORS = []
 
 
-def add(name, expected, tables=None, text=None, samples=None, length=None):
+def add(name, expected, tables=None, text=None, samples=None, visitor=None, length=None):
     tables = base() if tables is None else tables
     if text is None:
         text = scene_cases.text_of(tables)
     if length is None:
         head = tables[0][0] if tables[0] else [0, 0, 0, 0, 0, 0]
         length = max(0, head[3]) * max(0, head[4]) * max(0, head[1])
-    VECTORS.append((name, expected, text, SAMPLES if samples is None else samples, length))
+    VECTORS.append((name, expected, text, SAMPLES if samples is None else samples, VISITOR if visitor is None else visitor, length))
 
 
 def changed(t, i, j, value):
@@ -162,7 +162,7 @@ def full(t):
         tables[SENDS] = [[0]] * 8
         tables[t] = [[1 + k // 8, 1 + k % 8, 0] for k in range(64)]
     elif t == SOUNDS:
-        tables[t] = [[0, 0, 4]] * 64
+        tables[t] = [[0, 0, 4, 0]] * 64
     elif t == ORDERS:
         tables[t] = [[0, 0, 0, 0, 0, 0, 0, 0, 0, 0]] * 128
     return tables
@@ -183,7 +183,7 @@ def counts():
     add("every table empty", 0, tables=tables)
     tables = [base()[0]] + [full(t)[t] for t in range(1, 7)]
     add("every table full", 0, tables=tables)
-    add("the largest scene", 0, tables=largest(4), length=4194304)
+    add("the largest scene", 0, tables=largest(4), visitor=SAMPLES, length=4194304)
 
 
 def largest(frames):
@@ -195,7 +195,7 @@ def largest(frames):
         [[0 if k < 10 else 10, -96000] for k in range(32)],
         [[-96000]] * 8,
         [[10 + k // 8, 1 + k % 8, -96000] for k in range(64)],
-        [[32, half, half]] * 64,
+        [[32, half, half, 1]] * 64,
         [[1023, 3, 64, -96000, 8, 3600000, 999, 3600000, 3, 8]] * 128,
     ]
 
@@ -229,7 +229,9 @@ def ranges():
                         row[9] = 0 if value == 0 else 1
                     if j == 9:
                         row[8] = 0 if value <= 0 else 1
-                if t == SOUNDS and fine and value == high:
+                if t == SOUNDS and j == 3 and fine:
+                    tables[t][0][2] = 3
+                if t == SOUNDS and j < 3 and fine and value == high:
                     add(f"field {j} of table {t} at {value}", 8, tables=tables)
                     continue
                 add(f"field {j} of table {t} at {value}", 0 if fine else 4, tables=tables, samples=samples)
@@ -328,8 +330,12 @@ def pairs():
 
 def samples():
     add("an odd count of samples", 8, samples=SAMPLES[:7])
-    add("no samples, and sounds of none", 0, tables=with_rows(SOUNDS, [[0, 0, 0]]), samples=[])
-    add("no samples, one frame wanted", 8, tables=with_rows(SOUNDS, [[0, 0, 1]]), samples=[])
+    add("no samples, and sounds of none", 0, tables=with_rows(SOUNDS, [[0, 0, 0, 0]]), samples=[], visitor=[])
+    add("no samples, one frame wanted", 8, tables=with_rows(SOUNDS, [[0, 0, 1, 0]]), samples=[])
+    add("no samples, one frame of the visitor's wanted", 0, tables=with_rows(SOUNDS, [[0, 0, 1, 1]]), samples=[])
+    add("an odd count of the visitor's samples", 8, visitor=VISITOR[:5])
+    add("an odd count of the visitor's samples, from which nothing is", 8, tables=with_rows(SOUNDS, [[0, 0, 4, 0]]), visitor=VISITOR[:1])
+    add("none of the visitor's, one frame wanted", 8, tables=with_rows(SOUNDS, [[0, 0, 1, 1]]), visitor=[])
     for row, expected in (
         ([0, 0, 4], 0),
         ([0, 0, 5], 8),
@@ -341,7 +347,8 @@ def samples():
         ([0, 2147483647, 2147483647], 8),
         ([0, 2147483647, 1], 8),
     ):
-        add(f"a sound {row} of 4 frames", expected, tables=with_rows(SOUNDS, [row]))
+        add(f"a sound {row} of 4 frames", expected, tables=with_rows(SOUNDS, [row + [0]]))
+        add(f"a sound {row} of 4 frames of the visitor's", expected, tables=with_rows(SOUNDS, [row + [1]]), visitor=SAMPLES, samples=[])
     up = struct.unpack("<f", struct.pack("<I", 0x3F800001))[0]
     for value, expected in (
         (1.0, 0),
@@ -359,6 +366,7 @@ def samples():
     ):
         for k in (0, 7):
             add(f"sample {k} is {value!r}", expected, samples=SAMPLES[:k] + [value] + SAMPLES[k + 1 :])
+            add(f"the visitor's sample {k} is {value!r}", expected, visitor=SAMPLES[:k] + [value] + SAMPLES[k + 1 :])
 
 
 def lengths():
@@ -390,7 +398,11 @@ def precedence():
     tables[ROUTES] = [[1, 1, 0], [1, 1, 0]]
     add("6 before 7", 6, tables=tables)
     add("7 before 8", 7, tables=with_rows(ROUTES, [[1, 1, 0], [1, 1, 0]]), samples=SAMPLES[:7])
-    add("8 before 9", 8, tables=with_rows(SOUNDS, [[0, 0, 5]]), samples=[2.0] + SAMPLES[1:])
+    add("8 before 9", 8, tables=with_rows(SOUNDS, [[0, 0, 5, 0]]), samples=[2.0] + SAMPLES[1:])
+    add("8 of the visitor's before 9 of the house's", 8, tables=with_rows(SOUNDS, [[0, 0, 4, 1]]), samples=[2.0] + SAMPLES[1:])
+    add("8 of the visitor's, an odd count, before 9 of the house's", 8, samples=[2.0] + SAMPLES[1:], visitor=VISITOR[:5])
+    add("8 of the visitor's before 9 of the visitor's", 8, visitor=[2.0] + VISITOR[1:5])
+    add("9 of the visitor's before 10", 9, visitor=[2.0] + VISITOR[1:], length=9)
     add("8 before 9, an odd count", 8, samples=[2.0] + SAMPLES[1:7])
     add("9 before 10", 9, samples=[2.0] + SAMPLES[1:], length=9)
     add("8 before 10", 8, samples=SAMPLES[:7], length=9)
@@ -403,9 +415,8 @@ for part in (sizes, spelling, counts, ranges, orders, speeds, references, depths
 
 def stream():
     out = []
-    for _, _, text, samples, length in VECTORS:
-        raw = array("f", samples).tobytes()
-        out.append(struct.pack("<4I", 1, len(text), len(raw), length) + text + raw)
+    for _, _, text, samples, visitor, length in VECTORS:
+        out.append(scene_cases.packed(text, samples, visitor, length))
     return b"".join(out)
 
 

@@ -21,8 +21,6 @@ TESTS = [
     ("noninterference", "same-mix"),
     ("noninterference", "alike-example"),
     ("noninterference", "accepted-example"),
-    ("noninterference", "first-fits"),
-    ("noninterference", "second-fits"),
     ("noninterference", "left-example"),
     ("pause_end", "once"),
     ("pause_end", "uneven-late"),

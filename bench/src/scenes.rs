@@ -14,7 +14,8 @@ const SECOND_FADE: usize = 470;
 
 pub const GROWTH: [usize; 6] = [1, 2, 4, 8, 16, 32];
 
-/// A scene file, and how many frames of samples it plays from.
+/// A scene file, and how many frames of samples it plays from. Every second
+/// sound is from the visitor, whose buffer has the same samples.
 pub struct Scene {
 	pub name: String,
 	pub file: String,
@@ -86,7 +87,7 @@ impl Tables {
 			.map(|[track, send]| format!("{track} {send} {volume}"));
 		let count = blocks * BLOCK;
 		let sounds = self.sounds.iter().zip(0..);
-		let sounds = sounds.map(|(track, k)| format!("{track} {} {count}", k * APART));
+		let sounds = sounds.map(|(track, k)| format!("{track} {} {count} {}", k * APART, k % 2));
 		let mut text = format!(
 			"rate channels buffer block blocks volume\n48000 2 128 {BLOCK} {blocks} {volume}\n"
 		);
@@ -94,7 +95,7 @@ impl Tables {
 		table(&mut text, "parent volume", tracks);
 		table(&mut text, "volume", sends);
 		table(&mut text, "track send volume", routes);
-		table(&mut text, "track first count", sounds);
+		table(&mut text, "track first count from", sounds);
 		let orders = "block kind index volume clock when part millis easing power";
 		table(&mut text, orders, self.orders.iter().cloned());
 		text

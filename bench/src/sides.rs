@@ -47,11 +47,11 @@ impl Side {
 				time
 			}
 			Self::KiraPowf => {
-				let mut show = kira_powf::harness::Show::new(&tables(), samples);
+				let mut show = kira_powf::harness::Show::new(&tables(), &recordings(samples));
 				timed(|| show.render(output)).1
 			}
 			Self::KiraTable => {
-				let mut show = kira_table::harness::Show::new(&tables(), samples);
+				let mut show = kira_table::harness::Show::new(&tables(), &recordings(samples));
 				timed(|| show.render(output)).1
 			}
 		}
@@ -67,7 +67,16 @@ pub fn reading(scene: &Scene, samples: &[f32]) -> Duration {
 }
 
 fn rendered(scene: &Scene, samples: &[f32], output: &mut [f32]) -> u32 {
-	room_desk::render(scene.file.as_bytes(), samples, output)
+	room_desk::render(scene.file.as_bytes(), samples, samples, output)
+}
+
+/// The house's and the visitor's: the same samples.
+fn recordings(samples: &[f32]) -> scene::Recordings {
+	let recording = scene::Recording {
+		samples: samples.to_vec(),
+		broken: false,
+	};
+	[recording.clone(), recording]
 }
 
 fn timed<T>(work: impl FnOnce() -> T) -> (T, Duration) {

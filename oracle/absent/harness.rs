@@ -8,7 +8,7 @@ use std::{
 	time::Duration,
 };
 
-use scene::{Order, Scene, Sound as SoundLine, Start, Volume};
+use scene::{Order, Recordings, Scene, Sound as SoundLine, Start, Volume};
 
 use crate::{
 	Capacities, Decibels, Easing, Frame, StartTime, Tween, Value,
@@ -40,7 +40,7 @@ pub struct Show {
 }
 
 impl Show {
-	pub fn new(scene: &Scene, samples: &[f32]) -> Self {
+	pub fn new(scene: &Scene, recordings: &Recordings) -> Self {
 		let shared = Arc::new(RendererShared::new(scene.head.rate as u32));
 		let buffer = scene.head.buffer;
 		let (resources, controllers) = create_resources(
@@ -60,7 +60,7 @@ impl Show {
 		show.add_clocks();
 		show.add_sends();
 		show.add_tracks(&shared);
-		show.add_sounds(samples);
+		show.add_sounds(recordings);
 		show
 	}
 
@@ -143,11 +143,13 @@ impl Show {
 			})
 	}
 
-	fn add_sounds(&mut self, samples: &[f32]) {
-		let (frames, _) = samples.as_chunks::<2>();
-		let frames: Arc<[Frame]> = frames.iter().map(|f| Frame::new(f[0], f[1])).collect();
+	fn add_sounds(&mut self, recordings: &Recordings) {
+		let buffers = recordings.each_ref().map(|recording| {
+			let (frames, _) = recording.samples.as_chunks::<2>();
+			frames.iter().map(|f| Frame::new(f[0], f[1])).collect()
+		});
 		for line in &self.scene.sounds {
-			let sound = FramesSound::new(line, &frames);
+			let sound = FramesSound::new(line, &buffers[line.from]);
 			let played = match line.track {
 				0 => self.controllers.main_track_handle.play(sound),
 				track => self.tracks[track - 1].play(sound),
@@ -260,7 +262,7 @@ pub(crate) fn at_once(tween: Tween) -> Tween {
 }
 
 /// Frames in turn, then zeros. Never finished: our scenes remove nothing. The
-/// sounds of a show share one buffer, as kira's static sounds can.
+/// sounds of a show share two buffers, as kira's static sounds can.
 struct FramesSound {
 	frames: Arc<[Frame]>,
 	next: usize,

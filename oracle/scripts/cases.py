@@ -22,25 +22,26 @@ PROGRAM, LIBRARY = 0, 1
 
 class Case:
     """What goes to the render program, or to the library's routine with an
-    output of `length` samples. A file that is None is missing. `expected` is
-    the number that must be answered, where it is known."""
+    output of `length` samples: the scene file, and the two sample files. A
+    file that is None is missing. `expected` is the number that must be
+    answered, where it is known."""
+
+    FILES = "samples.raw", "visitor.raw"
 
     def __init__(self, text, sample_bytes, length=None, expected=None):
         self.text, self.sample_bytes = text, sample_bytes
         self.length, self.expected = length, expected
 
     def stream(self):
-        text, sample_bytes = self.text or b"", self.sample_bytes or b""
+        files = [content or b"" for content in (self.text, *self.sample_bytes)]
         kind = PROGRAM if self.length is None else LIBRARY
-        numbers = (kind, len(text), len(sample_bytes), self.length or 0)
-        return struct.pack("<4I", *numbers) + text + sample_bytes
+        return struct.pack("<5I", kind, *map(len, files), self.length or 0) + b"".join(files)
 
     def write(self, folder):
         folder.mkdir(parents=True, exist_ok=True)
-        if self.text is not None:
-            (folder / "scene.txt").write_bytes(self.text)
-        if self.sample_bytes is not None:
-            (folder / "samples.raw").write_bytes(self.sample_bytes)
+        for name, content in zip(("scene.txt", *self.FILES), (self.text, *self.sample_bytes)):
+            if content is not None:
+                (folder / name).write_bytes(content)
         if self.length is not None:
             (folder / "length.txt").write_text(f"{self.length}\n")
 

@@ -123,7 +123,9 @@ def check_named():
         folder = named.FOLDER / name
         printed = oracle("render", folder)
         stored = (folder / "scene.txt").read_bytes() == scene.text()
-        stored = stored and (folder / "samples.raw").read_bytes() == scene.sample_bytes()
+        for file, content in zip(cases.Case.FILES, scene.sample_bytes()):
+            stored = stored and (folder / file).exists() >= bool(content)
+            stored = stored and (not content or (folder / file).read_bytes() == content)
         stored = stored and (folder / "output.txt").read_bytes() == printed
         report(f"scene {name}", stored and shows(scene, shown, printed.decode().splitlines()))
     extra = {path.name for path in named.FOLDER.iterdir()} - set(named.NAMED)
@@ -140,12 +142,14 @@ def shows(scene, shown, printed):
 def check_missing_files(folder):
     """The files that won't open, and a sample file that ends inside a number."""
     sample = named.FOLDER / "row-sample-scene"
-    expected = {"": 1, "scene": 8, "samples": 1, "scene samples tail": 8}
+    expected = {"": 1, "scene": 8, "samples": 1, "scene samples tail": 8, "scene samples visitor-tail": 8}
     for present, number in expected.items():
         case = folder / (present or "nothing").replace(" ", "-")
         scene = (sample / "scene.txt").read_bytes() if "scene" in present else None
         samples = (sample / "samples.raw").read_bytes() if "samples" in present else None
-        cases.Case(scene, samples + b"\0" if "tail" in present else samples).write(case)
+        words = present.split()
+        visitor = b"\0" if "visitor-tail" in words else None
+        cases.Case(scene, [samples + b"\0" if "tail" in words else samples, visitor]).write(case)
         report(f"files: {present or 'none'}", oracle("render", case) == f"refused\n{number}\n".encode())
 
 

@@ -13,7 +13,7 @@ RANGES = {
     "blocks": (1, 1024), "volume": (-96000, 18000), "unit": (0, 2), "speed": (1, 60_000_000),
     "ticking": (0, 1), "first": (0, None), "count": (0, None), "kind": (0, 5),
     "when": (0, 3_600_000), "part": (0, 999), "millis": (0, 3_600_000), "easing": (0, 3),
-    "power": (0, 8),
+    "power": (0, 8), "from": (0, 1),
 }  # fmt: skip
 DAMAGES = []
 
@@ -24,19 +24,18 @@ class Input:
     def __init__(self, scene, library):
         self.scene, self.library = scene, library
         self.length = scene.output_length() if library else None
-        self.text_edits, self.tail = [], b""
-        self.missing_scene = self.missing_samples = False
+        self.text_edits, self.tails = [], [b"", b""]
+        self.missing_scene, self.missing = False, [False, False]
 
     def case(self):
         text = self.scene.text()
         for edit in self.text_edits:
             text = edit(text)
-        sample_bytes = self.scene.sample_bytes() + self.tail
-        return (
-            None if self.missing_scene else text,
-            None if self.missing_samples else sample_bytes,
-            self.length,
-        )
+        sample_bytes = [
+            None if missing else content + tail
+            for content, tail, missing in zip(self.scene.sample_bytes(), self.tails, self.missing)
+        ]
+        return None if self.missing_scene else text, sample_bytes, self.length
 
 
 def damage(number, rank=None, library=None):
@@ -58,8 +57,9 @@ def base(rng):
     made.tracks.append([0, 0])
     made.sends.append([0])
     made.routes.append([len(made.tracks), len(made.sends), -6000])
-    made.samples += scenes.samples(rng, 4)
-    made.sounds.append([len(made.tracks), 0, len(made.samples) // 2])
+    for origin, samples in enumerate(made.recordings()):
+        samples += scenes.samples(rng, 4)
+        made.sounds.append([len(made.tracks), 0, len(samples) // 2, origin])
     for kind, index in scenes.targets(made)[-6:] + [(0, 0)]:
         made.orders.append(scenes.order(rng, made, limits, 0, kind, index))
     return made
@@ -363,39 +363,54 @@ def routed_twice(rng, damaged):
     damaged.scene.routes.append([track, send, rng.pick(scenes.VOLUMES)])
 
 
-# Questions 8 and 9.
+# Questions 8 and 9, each of the house's samples and of the visitor's.
 
 
-@damage(8)
-def odd_samples(rng, damaged):
-    damaged.scene.samples.append(bits(0.5))
+def damage_of_both(number, library=None):
+    """A damage of one buffer; the visitor's is asked after the house's."""
+
+    def listed(function):
+        for origin in range(2):
+            def on_one(rng, damaged, origin=origin):
+                function(rng, damaged, origin)
+
+            DAMAGES.append((number + origin / 10, number, library, on_one))
+        return function
+
+    return listed
 
 
-@damage(8)
-def sound_past_the_end(rng, damaged):
-    frames = len(damaged.scene.samples) // 2
+@damage_of_both(8)
+def odd_samples(rng, damaged, origin):
+    damaged.scene.recordings()[origin].append(bits(0.5))
+
+
+@damage_of_both(8)
+def sound_past_the_end(rng, damaged, origin):
+    frames = len(damaged.scene.recordings()[origin]) // 2
     first, count = rng.pick([
         (frames + 1, 0), (0, frames + 1), (frames, 1), (2**31 - 1, 2**31 - 1), (2**31 - 1, 0),
     ])  # fmt: skip
     line = some_line(rng, damaged.scene, "sounds")
-    damaged.scene.set("sounds", line, "first", first)
-    damaged.scene.set("sounds", line, "count", count)
+    for name, value in (("first", first), ("count", count), ("from", origin)):
+        damaged.scene.set("sounds", line, name, value)
 
 
-@damage(8, library=False)
-def broken_last_number(rng, damaged):
-    damaged.tail = b"\0" * rng.between(1, 3)
+@damage_of_both(8, library=False)
+def broken_last_number(rng, damaged, origin):
+    damaged.tails[origin] = b"\0" * rng.between(1, 3)
 
 
-@damage(8)
-def missing_samples(rng, damaged):
-    damaged.missing_samples = True
+@damage_of_both(8)
+def missing_samples(rng, damaged, origin):
+    damaged.missing[origin] = True
 
 
-@damage(9)
-def bad_sample(rng, damaged):
+@damage_of_both(9)
+def bad_sample(rng, damaged, origin):
     bad = [0x3F800001, 0xBF800001, 0x7F800000, 0xFF800000, 0x7FC00000, 0xFFC00000, 0x7F800001, 0x7F7FFFFF]
-    damaged.scene.samples[rng.below(len(damaged.scene.samples) // 2 * 2)] = rng.pick(bad)
+    samples = damaged.scene.recordings()[origin]
+    samples[rng.below(len(samples) // 2 * 2)] = rng.pick(bad)
 
 
 # Question 10, and the program's question 12 in its two places.
@@ -409,8 +424,9 @@ def output_length(rng, damaged):
 
 @damage(12, rank=0, library=False)
 def too_many_samples(rng, damaged):
-    damaged.missing_samples = False
-    samples = damaged.scene.samples
+    origin = rng.below(2)
+    damaged.missing[origin] = False
+    samples = damaged.scene.recordings()[origin]
     samples += [0] * (PROGRAM_LIMIT + rng.pick([1, 2, 64]) - len(samples))
 
 

@@ -41,9 +41,9 @@ def of_tables(scene):
     found = {
         "route": scene.routes,
         "clock that does not tick": any(not ticking for _, _, ticking in scene.clocks),
-        "sound on the main track": any(track == 0 for track, _, _ in scene.sounds),
-        "sound without frames": any(count == 0 for _, _, count in scene.sounds),
-        "sound that ends inside a chunk": any(count % scene.head[0][2] for _, _, count in scene.sounds),
+        "sound on the main track": any(row[0] == 0 for row in scene.sounds),
+        "sound without frames": any(row[2] == 0 for row in scene.sounds),
+        "sound that ends inside a chunk": any(row[2] % scene.head[0][2] for row in scene.sounds),
         "32 tracks": len(scene.tracks) == 32,
         "128 orders": len(scene.orders) == 128,
         "64 sounds": len(scene.sounds) == 64,

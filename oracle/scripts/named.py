@@ -2,7 +2,7 @@
 """The stored scenes: worked examples that need a scene, and each behaviour
 that is easy to get wrong.
 
-    named.py    writes scene.txt and samples.raw into oracle/scenes/NAME
+    named.py    writes scene.txt, samples.raw and visitor.raw into oracle/scenes/NAME
 
 Each scene comes with a test of its output, so that it shows what its name
 says. Most have chunks of 8 frames, 1 ms long, one to a block, in one channel.
@@ -15,6 +15,7 @@ FOLDER = pathlib.Path(__file__).parent.parent / "scenes"
 SILENCE = -60000
 FOREVER = 3_600_000
 MAIN, TRACK, SEND, ROUTE, PAUSE, RESUME = range(6)
+HOUSE, VISITOR = range(2)
 NAMED = {}
 
 
@@ -43,11 +44,13 @@ def order(block, kind, index, volume=0, clock=0, when=0, part=0, millis=0, easin
 
 
 def show(blocks=10, samples=None, rate=8000, channels=1, buffer=8, block=None, volume=0, **tables):
-    """One track with one sound that plays all samples, where not said."""
+    """One track with one sound that plays all samples, where not said. A sound
+    is from the house, where not said."""
     block = buffer if block is None else block
     samples = ramp(blocks * block) if samples is None else samples
     tables.setdefault("tracks", [[0, 0]])
     tables.setdefault("sounds", [[1, 0, len(samples) // 2]])
+    tables["sounds"] = [row if len(row) == 4 else [*row, HOUSE] for row in tables["sounds"]]
     return Scene(head=[[rate, channels, buffer, block, blocks, volume]], samples=samples, **tables)
 
 
@@ -617,13 +620,67 @@ def folding_after_clamping():
     return show(1, samples, block=1, sounds=[[0, 0, 1]] * 2), lambda c: c == [[0.0]]
 
 
+# The visitor's recordings.
+
+
+@named
+def sound_from_the_visitor():
+    scene = show(2, steady(16, 0.5), visitor=ramp(16), sounds=[[1, 0, 16, VISITOR]])
+    return scene, lambda c: used_up(c, 0) == 0 and used_up(c, 1) == 8
+
+
+@named
+def sounds_from_both():
+    """One place, two buffers."""
+    sounds = [[1, 0, 16, HOUSE], [1, 0, 16, VISITOR]]
+    return show(2, steady(16, 0.5), visitor=steady(16, 0.25), sounds=sounds), lambda c: c == [[0.75] * 8] * 2
+
+
+@named
+def visitor_longer_than_the_house():
+    scene = show(2, steady(1), visitor=ramp(16), sounds=[[1, 8, 8, VISITOR], [1, 0, 1, HOUSE]])
+    return scene, lambda c: place(c[0][1]) == 9 and silent(c[1])
+
+
+@named
+def from_2():
+    return show(1, sounds=[[1, 0, 8, 2]]), 4
+
+
+@named
+def visitor_too_short():
+    return show(1, visitor=ramp(7), sounds=[[1, 0, 8, VISITOR]]), 8
+
+
+@named
+def visitor_cut_inside_a_frame():
+    """Though nothing is from it."""
+    return show(1, visitor=ramp(1)[:1]), 8
+
+
+@named
+def visitor_too_short_before_the_house_too_loud():
+    scene = show(1, steady(8, 1.5), visitor=[], sounds=[[1, 0, 8, VISITOR]])
+    return scene, 8
+
+
+@named
+def visitor_too_loud():
+    """Though nothing is from it."""
+    return show(1, visitor=steady(1, 1.5)), 9
+
+
 def write_all():
     for name, function in NAMED.items():
         scene, _ = function()
         folder = FOLDER / name
         folder.mkdir(parents=True, exist_ok=True)
         (folder / "scene.txt").write_bytes(scene.text())
-        (folder / "samples.raw").write_bytes(scene.sample_bytes())
+        house, visitor = scene.sample_bytes()
+        (folder / "samples.raw").write_bytes(house)
+        # A file that is not there counts as empty.
+        if visitor:
+            (folder / "visitor.raw").write_bytes(visitor)
 
 
 if __name__ == "__main__":

@@ -68,8 +68,8 @@ def ranks(lines):
 
 
 def kept_sound(scene, row, tracks):
-    track, first, count = row
-    return [tracks[track], first, count, scene.samples[2 * first : 2 * (first + count)]]
+    track, first, count, origin = row
+    return [tracks[track], count, scene.recordings()[origin][2 * first : 2 * (first + count)]]
 
 
 def kept_order(row, tracks, routes):
@@ -88,6 +88,10 @@ def alike(pair):
     return silenced and one == other
 
 
+def origins(scene):
+    return [row[3] for row in scene.sounds]
+
+
 def kinds(pair):
     """What a pair is an example of."""
     (one, other), (chosen, _) = pair.scenes, pair.chosen
@@ -99,6 +103,8 @@ def kinds(pair):
         "other line counts": any(len(one.tables[t]) != len(other.tables[t]) for t in one.tables),
         "other chosen lines": pair.chosen[0] != pair.chosen[1],
         "other sample lengths": len(one.samples) != len(other.samples),
+        "other visitor lengths": len(one.visitor) != len(other.visitor),
+        "other origins inside": origins(one) != origins(other),
         "send below a paused track": any(r[0] in below(one, t) for r in one.routes for t in chosen),
     }
     return [name for name, holds in found.items() if holds]
@@ -134,8 +140,8 @@ class Draft:
             self.tracks.append(Track(self.tracks[parent - 1] if parent else None, volume))
         for track, send, volume in scene.routes:
             self.routes.append(Route(self.tracks[track - 1], send, volume))
-        for track, first, count in scene.sounds:
-            self.sounds.append((self.tracks[track - 1] if track else None, first, count))
+        for track, *place in scene.sounds:
+            self.sounds.append((self.tracks[track - 1] if track else None, *place))
         for row in scene.orders:
             self.orders.append((self.target(row[1], row[2]), row))
 
@@ -163,15 +169,15 @@ class Draft:
     def room(self, table):
         return MOST_LINES[table] - len(getattr(self, table))
 
-    def numbered(self, samples):
+    def numbered(self, samples, visitor):
         tracks = {track: n for n, track in enumerate(self.tracks, 1)} | {None: 0}
         routes = {route: n for n, route in enumerate(self.routes, 1)}
         index = lambda target: tracks.get(target) or routes.get(target) or target
         return Scene(
-            head=self.scene.head, clocks=self.scene.clocks, sends=self.scene.sends, samples=samples,
+            head=self.scene.head, clocks=self.scene.clocks, sends=self.scene.sends, samples=samples, visitor=visitor,
             tracks=[[tracks[t.parent], t.volume] for t in self.tracks],
             routes=[[tracks[r.track], r.send, r.volume] for r in self.routes],
-            sounds=[[tracks[track], first, count] for track, first, count in self.sounds],
+            sounds=[[tracks[track], *place] for track, *place in self.sounds],
             orders=[row[:INDEX] + [index(target)] + row[INDEX + 1 :] for target, row in self.orders],
         )  # fmt: skip
 
@@ -261,21 +267,24 @@ class Inside:
             row = order_line(self.rng, self.draft, kind, self.limits)
             inserted(self.rng, self.draft.orders, (target, row))
 
-    def add_sounds(self, frames, least=0):
-        """Sounds inside; at least some of them play from the start."""
+    def add_sounds(self, both, least=0):
+        """Sounds inside, of buffers of so many frames; at least some of them
+        play from the start."""
         rng, draft = self.rng, self.draft
         if not self.holders:
             return
         for _ in range(max(least, scenes.count(rng, min(30, draft.room("sounds"))))):
-            _, first, count = scenes.sound(rng, 0, frames)
+            _, first, count, origin = scenes.sound(rng, 0, both)
             holder = self.holders[-1] if least else rng.pick(self.holders)
-            inserted(rng, draft.sounds, (holder, first, max(count, min(least, frames - first))))
+            count = max(count, min(least, both[origin] - first))
+            inserted(rng, draft.sounds, (holder, first, count, origin))
 
 
-def buffer(rng, draft, base, least=0):
-    """Samples with the base's bits where a sound outside plays, and others
-    elsewhere, in a length of its own."""
-    outside = [(first, count) for _, first, count in draft.sounds]
+def buffer(rng, draft, origin, least=0):
+    """One of the two buffers: samples with the draft's bits where a sound
+    outside plays, and others elsewhere, in a length of its own."""
+    base = draft.scene.recordings()[origin]
+    outside = [(first, count) for _, first, count, other in draft.sounds if other == origin]
     needed = max([first + count for first, count in outside], default=0)
     frames = min(MOST_FRAMES, max(needed, least) + rng.pick([0, 1, rng.below(200)]))
     samples = scenes.samples(rng, frames)
@@ -315,9 +324,9 @@ def side(rng, outside, chosen, muted, limits, least=0, routed=False):
         # A send from below, which a muted track may not have.
         inside.holders = [chosen[0]]
         inside.route(inside.add_track())
-    samples = buffer(rng, outside, outside.scene.samples, least)
-    inside.add_sounds(len(samples) // 2, least)
-    return draft.numbered(samples), draft.lines(chosen)
+    both = [buffer(rng, outside, origin, least) for origin in range(2)]
+    inside.add_sounds([len(samples) // 2 for samples in both], least)
+    return draft.numbered(*both), draft.lines(chosen)
 
 
 # Control pairs: audible outside, one chosen track, one rule broken.
@@ -344,7 +353,9 @@ def control(rng, kind):
     muted = breaking(rng, draft, chosen[0], limits) == "muted"
     one, other = (side(rng, draft, chosen, chosen if muted else [], limits, 8, **options) for _ in range(2))
     if kind == "outside-frame":
-        change_outside(rng, one[0], other[0])
+        change_outside(one[0], other[0])
+    if kind == "outside-origin":
+        swap_outside(one[0], other[0])
     return Pair(*zip(one, other))
 
 
@@ -356,7 +367,7 @@ def audible_draft(rng, limits):
     scene.tables["orders"] = []
     scene.samples += scenes.samples(rng, 32)
     # The main track's sound: something outside to be heard.
-    scene.sounds.append([0, len(scene.samples) // 2 - 32, 32])
+    scene.sounds.append([0, len(scene.samples) // 2 - 32, 32, 0])
     return Draft(scene)
 
 
@@ -424,9 +435,33 @@ def outside_frame(rng, draft, track, limits):
     return "muted"
 
 
-def change_outside(rng, one, other):
-    """Another first frame of the sound on the main track that was added last."""
-    sounds = [row for row in one.sounds if row[0] == 0]
-    first = sounds[-1][1]
+@breaks()
+def outside_origin(rng, draft, track, limits):
+    (mute if rng.chance(1, 2) else pause)(rng, draft, track, limits)
+    return "muted"
+
+
+def main_sound(scene):
+    """The line of the sound on the main track that was added last."""
+    return max(line for line, row in enumerate(scene.sounds, 1) if row[0] == 0)
+
+
+def other_bits(sample):
     half, quarter = bits(0.5), bits(0.25)
-    other.samples[2 * first] = quarter if one.samples[2 * first] == half else half
+    return quarter if sample == half else half
+
+
+def change_outside(one, other):
+    """Another first frame of that sound."""
+    first = one.get("sounds", main_sound(one), "first")
+    other.samples[2 * first] = other_bits(one.samples[2 * first])
+
+
+def swap_outside(one, other):
+    """That sound from the visitor, whose first frame there is another."""
+    line = main_sound(other)
+    first, count = (other.get("sounds", line, name) for name in ("first", "count"))
+    played = other.samples[2 * first : 2 * (first + count)]
+    other.set("sounds", line, "first", len(other.visitor) // 2)
+    other.set("sounds", line, "from", 1)
+    other.visitor += [other_bits(played[0]), *played[1:]]

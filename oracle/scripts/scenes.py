@@ -89,11 +89,14 @@ def samples(rng, frames):
     return [sample(rng, scale) for _ in range(2 * frames)]
 
 
-def sound(rng, tracks, frames):
+def sound(rng, tracks, both):
+    """`both`: how many frames the house's buffer has, and the visitor's."""
+    origin = rng.below(2)
+    frames = both[origin]
     first = rng.below(rng.pick([0, frames // 2, frames]) + 1)
     rest = frames - first
     length = rng.pick([0, 1, rng.below(rest + 1), rest, rest, rest])
-    return [rng.below(tracks + 1), first, min(length, frames - first)]
+    return [rng.below(tracks + 1), first, min(length, frames - first), origin]
 
 
 def shows_millis(head):
@@ -164,10 +167,10 @@ def scene(rng, limits=Limits()):
     tables["tracks"] = tracks(rng, limits)
     tables["sends"] = [[volume(rng, limits)] for _ in range(count(rng, limits.lines["sends"]))]
     tables["routes"] = routes(rng, limits, len(made.tracks), len(made.sends))
-    frames = rng.below(min(rng.pick([4, 256, 1024, 4096]), limits.frames) + 1)
-    made.samples = samples(rng, frames)
+    both = [rng.below(min(rng.pick([4, 256, 1024, 4096]), limits.frames) + 1) for _ in range(2)]
+    made.samples, made.visitor = (samples(rng, frames) for frames in both)
     sounds = rng.pick([0, 1, 1, 2]) + count(rng, limits.lines["sounds"] - 2)
-    tables["sounds"] = [sound(rng, len(made.tracks), frames) for _ in range(sounds)]
+    tables["sounds"] = [sound(rng, len(made.tracks), both) for _ in range(sounds)]
     tables["orders"] = orders(rng, made, limits)
     return made
 

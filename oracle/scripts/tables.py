@@ -7,7 +7,7 @@ NAMES = {
     "tracks": "parent volume",
     "sends": "volume",
     "routes": "track send volume",
-    "sounds": "track first count",
+    "sounds": "track first count from",
     "orders": "block kind index volume clock when part millis easing power",
 }
 MOST_LINES = {
@@ -23,10 +23,12 @@ def field(table, name):
 
 
 class Scene:
-    """Tables of lines, and the samples as the bits of f32 numbers."""
+    """Tables of lines, and the samples as the bits of f32 numbers: the
+    house's, and the visitor's."""
 
     def __init__(self, **tables):
         self.samples = tables.pop("samples", [])
+        self.visitor = tables.pop("visitor", [])
         self.tables = {name: tables.get(name, []) for name in NAMES}
 
     def __getattr__(self, name):
@@ -42,7 +44,7 @@ class Scene:
 
     def copy(self):
         tables = {name: [list(row) for row in rows] for name, rows in self.tables.items()}
-        return Scene(samples=list(self.samples), **tables)
+        return Scene(samples=list(self.samples), visitor=list(self.visitor), **tables)
 
     def text(self):
         parts = []
@@ -51,8 +53,13 @@ class Scene:
             parts.append("\n".join([names_line, *rows]) + "\n")
         return "\n".join(parts).encode()
 
+    def recordings(self):
+        """Both buffers, by a sound's `from`."""
+        return [self.samples, self.visitor]
+
     def sample_bytes(self):
-        return struct.pack(f"<{len(self.samples)}I", *self.samples)
+        """Those of samples.raw and of visitor.raw."""
+        return [struct.pack(f"<{len(samples)}I", *samples) for samples in self.recordings()]
 
     def output_length(self):
         _, channels, _, block, blocks, _ = self.head[0]

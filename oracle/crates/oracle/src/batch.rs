@@ -1,9 +1,9 @@
 //! Many cases in one process.
 //!
-//! A case is four little-endian u32 numbers and two runs of bytes: kind (0 the
-//! render program, 1 the library's routine), length of the scene file, length
-//! of the sample file, length of the output (0 for the program), the scene
-//! file, the sample file. A missing file is an empty one.
+//! A case is five little-endian u32 numbers and three runs of bytes: kind (0
+//! the render program, 1 the library's routine), lengths of the scene file, of
+//! the house's sample file and of the visitor's, length of the output (0 for
+//! the program), then the three files. A missing file is an empty one.
 //!
 //! An answer is two u32 numbers and the output's bits: the number, how many
 //! samples follow, and they. The library's buffer is answered whole as it
@@ -12,13 +12,15 @@
 
 use std::io::{self, ErrorKind, Read, Write};
 
+use scene::{Recording, Recordings};
+
 /// 785.0666: finite, and never a sample of an output.
 const BEFORE: u32 = 0x4444_4444;
 
 pub struct Case {
 	library: bool,
 	file: Vec<u8>,
-	samples: Vec<u8>,
+	samples: [Vec<u8>; 2],
 	output: usize,
 }
 
@@ -46,20 +48,23 @@ pub fn rendered(case: &Case) -> (u32, Vec<u32>) {
 
 /// The tracks' states, chunk by chunk.
 pub fn states(case: &Case) -> (u32, Vec<u32>) {
-	match oracle::states(&case.file, &oracle::whole_samples(&case.samples)) {
+	match oracle::states(&case.file, &whole(case)) {
 		Ok(states) => (0, states),
 		Err(number) => (number, vec![]),
 	}
 }
 
+fn whole(case: &Case) -> Recordings {
+	case.samples.each_ref().map(|bytes| Recording::whole(bytes))
+}
+
 fn render(case: &Case) -> (u32, Vec<f32>) {
 	if case.library {
 		let mut buffer = vec![f32::from_bits(BEFORE); case.output];
-		let samples = oracle::whole_samples(&case.samples);
-		let number = oracle::render(&case.file, &samples, &mut buffer);
+		let number = oracle::render(&case.file, &whole(case), &mut buffer);
 		return (number, buffer);
 	}
-	match oracle::program(&case.file, &case.samples) {
+	match oracle::program(&case.file, case.samples.each_ref().map(Vec::as_slice)) {
 		Ok((_, samples)) => (0, samples),
 		Err(number) => (number, vec![]),
 	}
@@ -76,12 +81,13 @@ fn read_case(input: &mut impl Read) -> io::Result<Option<Case>> {
 		read_number(input)?,
 		read_number(input)?,
 		read_number(input)?,
+		read_number(input)?,
 	];
-	let [file, samples, output] = lengths.map(|length| length as usize);
+	let [file, house, visitor, output] = lengths.map(|length| length as usize);
 	Ok(Some(Case {
 		library: u32::from_le_bytes(first) == 1,
 		file: read_bytes(input, file)?,
-		samples: read_bytes(input, samples)?,
+		samples: [read_bytes(input, house)?, read_bytes(input, visitor)?],
 		output,
 	}))
 }

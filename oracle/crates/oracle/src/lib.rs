@@ -4,17 +4,17 @@
 use std::fmt::Write;
 
 use kira_table::harness::Show;
-use scene::{Refusal, Scene, accepted, output_length, sample_questions};
+use scene::{Recording, Recordings, Refusal, Scene, accepted, output_length, sample_questions};
 
 /// The render program's own limit on whole samples, read and written.
 const PROGRAM_LIMIT: usize = 8_192;
 
 /// The library's routine: 0, or the first question that says no, with the
 /// output left alone.
-pub fn render(file: &[u8], samples: &[f32], output: &mut [f32]) -> Refusal {
-	match library_questions(file, samples, output.len()) {
+pub fn render(file: &[u8], recordings: &Recordings, output: &mut [f32]) -> Refusal {
+	match library_questions(file, recordings, output.len()) {
 		Ok(scene) => {
-			Show::new(&scene, samples).render(output);
+			Show::new(&scene, recordings).render(output);
 			0
 		}
 		Err(number) => number,
@@ -22,9 +22,13 @@ pub fn render(file: &[u8], samples: &[f32], output: &mut [f32]) -> Refusal {
 }
 
 /// Questions 1 to 10.
-pub fn library_questions(file: &[u8], samples: &[f32], output: usize) -> Result<Scene, Refusal> {
+pub fn library_questions(
+	file: &[u8],
+	recordings: &Recordings,
+	output: usize,
+) -> Result<Scene, Refusal> {
 	let scene = accepted(file)?;
-	sample_questions(&scene, samples, false)?;
+	sample_questions(&scene, recordings)?;
 	if output != output_length(&scene) {
 		return Err(10);
 	}
@@ -32,31 +36,33 @@ pub fn library_questions(file: &[u8], samples: &[f32], output: usize) -> Result<
 }
 
 /// The render program, from its files' bytes to the scene and its output.
-pub fn program(file: &[u8], sample_bytes: &[u8]) -> Result<(Scene, Vec<f32>), Refusal> {
-	let samples = whole_samples(sample_bytes);
-	if samples.len() > PROGRAM_LIMIT {
-		return Err(12);
+pub fn program(file: &[u8], sample_bytes: [&[u8]; 2]) -> Result<(Scene, Vec<f32>), Refusal> {
+	let recordings = sample_bytes.map(Recording::read);
+	for recording in &recordings {
+		if recording.samples.len() > PROGRAM_LIMIT {
+			return Err(12);
+		}
 	}
 	let scene = accepted(file)?;
-	sample_questions(&scene, &samples, !sample_bytes.len().is_multiple_of(4))?;
+	sample_questions(&scene, &recordings)?;
 	if output_length(&scene) > PROGRAM_LIMIT {
 		return Err(12);
 	}
-	let output = rendered(&scene, &samples);
+	let output = rendered(&scene, &recordings);
 	Ok((scene, output))
 }
 
-pub fn rendered(scene: &Scene, samples: &[f32]) -> Vec<f32> {
+pub fn rendered(scene: &Scene, recordings: &Recordings) -> Vec<f32> {
 	let mut output = vec![0.0; output_length(scene)];
-	Show::new(scene, samples).render(&mut output);
+	Show::new(scene, recordings).render(&mut output);
 	output
 }
 
 /// The tracks' states in line order, chunk by chunk.
-pub fn states(file: &[u8], samples: &[f32]) -> Result<Vec<u32>, Refusal> {
+pub fn states(file: &[u8], recordings: &Recordings) -> Result<Vec<u32>, Refusal> {
 	let scene = accepted(file)?;
-	sample_questions(&scene, samples, false)?;
-	Ok(Show::new(&scene, samples).states())
+	sample_questions(&scene, recordings)?;
+	Ok(Show::new(&scene, recordings).states())
 }
 
 /// What the render program prints.
@@ -76,13 +82,4 @@ fn listing(scene: &Scene, output: &[f32]) -> String {
 		}
 	}
 	text
-}
-
-/// Little-endian f32 numbers; a broken last one is left off.
-pub fn whole_samples(bytes: &[u8]) -> Vec<f32> {
-	let (whole, _) = bytes.as_chunks();
-	whole
-		.iter()
-		.map(|number| f32::from_le_bytes(*number))
-		.collect()
 }

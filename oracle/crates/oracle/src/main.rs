@@ -10,6 +10,8 @@ use std::{
 	process::ExitCode,
 };
 
+use scene::Recording;
+
 const USAGE: &str = "usage: oracle render [FOLDER]        what the render program prints
        oracle check FOLDER LENGTH   the library's number for an output of that length
        oracle raw FOLDER FILE       the library's output, as raw samples, of any length
@@ -52,15 +54,22 @@ fn main() -> ExitCode {
 	}
 }
 
-/// The two files' bytes; a file that won't open counts as empty.
-fn read_files(folder: &Path) -> (Vec<u8>, Vec<u8>) {
+/// The scene file's bytes, and those of the two sample files; a file that won't
+/// open counts as empty.
+fn read_files(folder: &Path) -> (Vec<u8>, [Vec<u8>; 2]) {
 	let read = |name: &str| fs::read(folder.join(name)).unwrap_or_default();
-	(read("scene.txt"), read("samples.raw"))
+	(
+		read("scene.txt"),
+		[read("samples.raw"), read("visitor.raw")],
+	)
 }
 
 fn answer(folder: &Path) -> String {
 	let (file, samples) = read_files(folder);
-	oracle::printed(&oracle::program(&file, &samples))
+	oracle::printed(&oracle::program(
+		&file,
+		samples.each_ref().map(Vec::as_slice),
+	))
 }
 
 fn render(folder: &Path) -> io::Result<()> {
@@ -70,16 +79,17 @@ fn render(folder: &Path) -> io::Result<()> {
 fn check(folder: &Path, length: &str) -> io::Result<()> {
 	let length = length.parse().map_err(|_| io::Error::other(USAGE))?;
 	let (file, samples) = read_files(folder);
-	let asked = oracle::library_questions(&file, &oracle::whole_samples(&samples), length);
+	let recordings = samples.each_ref().map(|bytes| Recording::whole(bytes));
+	let asked = oracle::library_questions(&file, &recordings, length);
 	writeln!(io::stdout(), "{}", asked.err().unwrap_or(0))
 }
 
 fn raw(folder: &Path, target: &Path) -> io::Result<()> {
 	let (file, samples) = read_files(folder);
-	let samples = oracle::whole_samples(&samples);
+	let recordings = samples.each_ref().map(|bytes| Recording::whole(bytes));
 	let output = scene::accepted(&file).and_then(|scene| {
-		scene::sample_questions(&scene, &samples, false)?;
-		Ok(oracle::rendered(&scene, &samples))
+		scene::sample_questions(&scene, &recordings)?;
+		Ok(oracle::rendered(&scene, &recordings))
 	});
 	match output {
 		Ok(output) => {

@@ -12,8 +12,8 @@ volume
 
 track send volume
 
-track first count
-1 0 256
+track first count from
+1 0 256 0
 
 block kind index volume clock when part millis easing power
 2 1 1 -20000 0 0 0 3 3 3
@@ -22,11 +22,15 @@ block kind index volume clock when part millis easing power
 #[test]
 fn table_and_powf_agree_within_the_tables_error() {
 	let scene = scene::accepted(FILE).expect("an accepted scene");
-	let samples: Vec<f32> = (0..512).map(|n| (n % 37) as f32 / 37.0 - 0.5).collect();
+	let samples = (0..512).map(|n| (n % 37) as f32 / 37.0 - 0.5).collect();
+	let recordings = [samples, vec![]].map(|samples| scene::Recording {
+		samples,
+		broken: false,
+	});
 	let mut table = vec![0.0; scene::output_length(&scene)];
 	let mut powf = table.clone();
-	kira_table::harness::Show::new(&scene, &samples).render(&mut table);
-	kira_powf::harness::Show::new(&scene, &samples).render(&mut powf);
+	kira_table::harness::Show::new(&scene, &recordings).render(&mut table);
+	kira_powf::harness::Show::new(&scene, &recordings).render(&mut powf);
 	assert_ne!(table, powf);
 	// A straight line between two entries is at most 7 parts in a million high,
 	// for the track's volume and for the main track's.

@@ -83,6 +83,7 @@ pub static TABLES: [Layout; 7] = [
 			Reference("track"),
 			Range("first", 0..=i32::MAX),
 			Range("count", 0..=i32::MAX),
+			Range("from", 0..=1),
 		],
 	},
 	Layout {

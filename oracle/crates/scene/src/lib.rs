@@ -51,6 +51,41 @@ pub struct Sound {
 	pub track: usize,
 	pub first: usize,
 	pub count: usize,
+	/// The place of its buffer among the recordings.
+	pub from: usize,
+}
+
+/// A sample buffer that sounds play from. `broken`: its bytes end inside a
+/// number, as those of a file can.
+#[derive(Debug, Clone)]
+pub struct Recording {
+	pub samples: Vec<f32>,
+	pub broken: bool,
+}
+
+/// The house's and the visitor's.
+pub type Recordings = [Recording; 2];
+
+impl Recording {
+	/// Little-endian f32 numbers; a broken last one is left off.
+	pub fn read(bytes: &[u8]) -> Self {
+		let (whole, rest) = bytes.as_chunks();
+		Self {
+			samples: whole
+				.iter()
+				.map(|number| f32::from_le_bytes(*number))
+				.collect(),
+			broken: !rest.is_empty(),
+		}
+	}
+
+	/// What the library's routine is lent: the whole numbers alone.
+	pub fn whole(bytes: &[u8]) -> Self {
+		Self {
+			broken: false,
+			..Self::read(bytes)
+		}
+	}
 }
 
 #[derive(Debug, Clone, Copy, PartialEq)]
@@ -160,6 +195,7 @@ impl Sound {
 			track: row[0] as usize,
 			first: row[1] as usize,
 			count: row[2] as usize,
+			from: row[3] as usize,
 		}
 	}
 }

@@ -3,7 +3,7 @@
 use std::collections::HashSet;
 
 use crate::{
-	Scene,
+	Recording, Recordings, Scene,
 	format::{Field, Layout, Rows, Table},
 };
 
@@ -29,20 +29,30 @@ pub fn accepted(file: &[u8]) -> Result<Scene, Refusal> {
 	Ok(scene)
 }
 
-/// Questions 8 and 9, of one sample buffer. `broken`: its bytes end inside a
-/// number, as those of a file can.
-pub fn sample_questions(scene: &Scene, samples: &[f32], broken: bool) -> Result<(), Refusal> {
-	let frames = samples.len() / 2;
+/// Questions 8 and 9, each of the house's samples and then of the visitor's.
+pub fn sample_questions(scene: &Scene, recordings: &Recordings) -> Result<(), Refusal> {
+	for (from, recording) in recordings.iter().enumerate() {
+		ask(8, sounds_fit(scene, from, recording))?;
+	}
+	for recording in recordings {
+		ask(9, samples_in_range(&recording.samples))?;
+	}
+	Ok(())
+}
+
+fn sounds_fit(scene: &Scene, from: usize, recording: &Recording) -> bool {
+	let frames = recording.samples.len() / 2;
 	let within = |first: usize, count: usize| first as u64 + count as u64 <= frames as u64;
-	let mut sounds = scene.sounds.iter();
-	let sounds_within = sounds.all(|sound| within(sound.first, sound.count));
-	ask(8, !broken && samples.len().is_multiple_of(2) && sounds_within)?;
-	ask(
-		9,
-		samples
-			.iter()
-			.all(|x| x.is_finite() && (-1.0..=1.0).contains(x)),
-	)
+	let mut sounds = scene.sounds.iter().filter(|sound| sound.from == from);
+	!recording.broken
+		&& recording.samples.len().is_multiple_of(2)
+		&& sounds.all(|sound| within(sound.first, sound.count))
+}
+
+fn samples_in_range(samples: &[f32]) -> bool {
+	samples
+		.iter()
+		.all(|x| x.is_finite() && (-1.0..=1.0).contains(x))
 }
 
 /// Question 10's length.
