@@ -86,7 +86,7 @@ def pause(rng):
     if not made.tracks:
         made.tables["tracks"] = [[0, 0]]
     track = rng.pick([line for line, row in enumerate(made.tracks, 1) if row[0] == 0])
-    made.tables["sounds"] = made.sounds[:63] + [[track, 0, len(made.samples) // 2]]
+    made.tables["sounds"] = made.sounds[:63] + [[track, 0, len(made.samples) // 2, 0]]
     orders = [row for row in made.orders if row[0] < blocks and not (row[1] in (PAUSE, RESUME) and row[2] == track)][:127]
     at = rng.below(blocks)
     length = millis(rng, rate, buffer, (blocks - at) * (block // buffer))
