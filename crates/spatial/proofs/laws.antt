@@ -1,0 +1,5 @@
+pub mod Distance
+pub mod Relative
+pub mod Unity
+pub mod Spatial
+pub mod Thousandths
