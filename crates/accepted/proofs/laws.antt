@@ -1,4 +1,5 @@
 pub mod Passed
 pub mod Line
 pub mod Values
+pub mod Placed
 pub mod Accepted

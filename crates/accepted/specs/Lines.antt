@@ -6,12 +6,15 @@ use lib.Ieee.{nan}
 use Rattle.clock.specs.declared.clock_speed.ClockSpeed.the-variants.{SecondsPerTick}
 use Rattle.tween.specs.declared.tween.Easing.the-variants.{Linear}
 use Rattle.tween.specs.declared.start_time.StartTime.the-variants.{Immediate}
+use Rattle.spatial.specs.declared.placing.Placing.{Placing}
+use Rattle.spatial.specs.declared.placing.Placing.the-variants.{Plain}
 use Rattle.scene.specs.declared.scene.Scene.{Scene}
 use Rattle.scene.specs.declared.scene.ClockLine.{ClockLine}
 use Rattle.scene.specs.declared.scene.TrackLine.{TrackLine}
 use Rattle.scene.specs.declared.scene.SendLine.{SendLine}
 use Rattle.scene.specs.declared.scene.RouteLine.{RouteLine}
 use Rattle.scene.specs.declared.scene.SoundLine.{SoundLine}
+use Rattle.scene.specs.declared.scene.TrackPlacing.{TrackPlacing}
 use Rattle.scene.specs.declared.scene.OrderLine.{OrderLine}
 use Rattle.scene.specs.declared.scene.OrderKind.the-variants.{MainVolume}
 
@@ -30,6 +33,9 @@ absentRouteLine = record { track = 0; send = 0; volume = record { 0 = nan } }
 abbrev pub absentSoundLine : SoundLine
 absentSoundLine = record { track = 0; first = 0; count = 0; from = 0 }
 
+abbrev pub absentTrackPlacing : TrackPlacing
+absentTrackPlacing = record { placing = Plain }
+
 abbrev pub absentOrderLine : OrderLine
 absentOrderLine = record { block = 0; kind = MainVolume; index = 0; target = record { 0 = nan }; «start_time» = Immediate; millis = 0; easing = Linear }
 
@@ -47,6 +53,10 @@ routeLine s r = getD (s .routes) r absentRouteLine
 
 abbrev pub soundLine : Scene → ℕ → SoundLine
 soundLine s k = getD (s .sounds) k absentSoundLine
+
+-- how a track line stands in the room
+abbrev pub placingAt : Scene → ℕ → Placing
+placingAt s t = getD (s .placings) t absentTrackPlacing .placing
 
 abbrev pub orderLine : Scene → ℕ → OrderLine
 orderLine s i = getD (s .orders) i absentOrderLine

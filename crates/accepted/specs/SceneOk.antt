@@ -10,12 +10,13 @@ use Rattle.laws.specs.DecibelRange.{TargetRange}
 use Rattle.laws.specs.FloatBounds.{Within}
 use Rattle.clock.specs.ClockSpeed.{asTicksPerSecond, allowedSpeed}
 use Rattle.tween.specs.StartTime.{ClockThere}
+use Rattle.spatial.specs.Spatial.{PlacingIn}
 use Rattle.scene.specs.declared.scene.Scene.{Scene}
 use Rattle.scene.specs.declared.scene.RouteLine.{RouteLine}
 use Rattle.scene.specs.declared.scene.OrderLine.{OrderLine}
 use Rattle.scene.specs.declared.scene.OrderKind.{OrderKind}
 use Rattle.scene.specs.declared.scene.OrderKind.the-variants.{MainVolume, TrackVolume, SendVolume, RouteVolume, Pause, Resume}
-use Rattle.accepted.specs.Lines.{clockLine, trackLine, sendLine, routeLine, soundLine, orderLine}
+use Rattle.accepted.specs.Lines.{clockLine, trackLine, sendLine, routeLine, soundLine, placingAt, orderLine}
 
 -- a line number from 1 on
 abbrev pub Names : ℕ → ℕ → Type 0
@@ -60,6 +61,7 @@ pub record SceneOk (s : Scene) : Type 0 where
   pub sendPlaces : length (s .sends) ≡ sendLines
   pub routePlaces : length (s .routes) ≡ routeLines
   pub soundPlaces : length (s .sounds) ≡ soundLines
+  pub placingPlaces : length (s .placings) ≡ trackLines
   pub orderPlaces : length (s .orders) ≡ orderLines
   -- the lines
   pub clocks : (i : ℕ) → i < s .«clock_count» → T (fits binary64 (asTicksPerSecond (clockLine s i .speed))) × T (allowedSpeed (clockLine s i .speed))
@@ -69,6 +71,7 @@ pub record SceneOk (s : Scene) : Type 0 where
   pub sends : (i : ℕ) → i < s .«send_count» → TargetRange (sendLine s i .volume .0)
   pub routes : (r : ℕ) → r < s .«route_count» → RouteOk s (routeLine s r)
   pub sounds : (k : ℕ) → k < s .«sound_count» → soundLine s k .track ≤ s .«track_count»
+  pub placings : (t : ℕ) → t < s .«track_count» → PlacingIn (placingAt s t)
   pub orders : (i : ℕ) → i < s .«order_count» → OrderOk s (orderLine s i)
 
 pub record SamplesOk (s : Scene) (samples : Recordings) : Type 0 where

@@ -14,6 +14,8 @@ use Rattle.laws.specs.Loop.{changed}
 use Rattle.laws.specs.DecibelRange.{ValueRange}
 use Rattle.rounding.specs.Narrow.{narrowed}
 use Rattle.tween.specs.Tweenable.{interpolated}
+use Rattle.spatial.specs.declared.placing.Placing.the-variants.{Plain}
+use Rattle.spatial.specs.Spatial.{PlacingIn}
 use Rattle.chunk.specs.declared.chunk.Level.{Level}
 use Rattle.chunk.specs.declared.chunk.ChunkTrack.{ChunkTrack}
 use Rattle.chunk.specs.declared.chunk.ChunkRoute.{ChunkRoute}
@@ -25,7 +27,7 @@ abbrev pub absentLevel : Level
 absentLevel = record { before = record { 0 = nan }; now = record { 0 = nan } }
 
 abbrev pub absentTrackRow : ChunkTrack
-absentTrackRow = record { parent = 0; advancing = false; volume = absentLevel; fade = absentLevel }
+absentTrackRow = record { parent = 0; advancing = false; placing = Plain; volume = absentLevel; fade = absentLevel }
 
 abbrev pub absentRouteRow : ChunkRoute
 absentRouteRow = record { track = 0; send = 0; amplitude = record { 0 = nan } }
@@ -99,6 +101,7 @@ pub record ChunkOk (c : Chunk) (samples : Recordings) : Type 0 where
   pub sounds : c .«sound_count» ≤ soundLines
   pub volumes : (j : ℕ) → j < c .«track_count» → LevelInRange (trackRow c j .volume)
   pub fades : (j : ℕ) → j < c .«track_count» → LevelInRange (trackRow c j .fade)
+  pub placings : (j : ℕ) → j < c .«track_count» → PlacingIn (trackRow c j .placing)
   pub sendLevels : (s : ℕ) → s < c .«send_count» → LevelInRange (sendRow c s)
   pub mainLevel : LevelInRange (c .main)
   -- a route's send track is a line, counted from 1

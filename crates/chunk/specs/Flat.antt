@@ -3,10 +3,13 @@ use mathlib.Core.Bool.{Bool, cond}
 use mathlib.Core.List.{List, [], _∷_, _++_}
 use Prim.Native.Nat.{ℕ, _+_, _*_}
 use lib.Dec.{eqb}
+use lib.IntN.{pos}
 use lib.ListN.{getD}
-use lib.Ieee.{Float, nan}
+use lib.Ieee.{Float, nan, binary32, ofInt}
 use Rattle.limits.specs.Limits.{trackPlaces, sendLines, routeLines, soundLines}
 use Rattle.laws.specs.Pieces.{pieces}
+use Rattle.spatial.specs.declared.placing.Placing.{Placing}
+use Rattle.spatial.specs.declared.placing.Placing.the-variants.{Plain, Unheard, Spatial}
 use Rattle.chunk.specs.declared.chunk.Level.{Level}
 use Rattle.chunk.specs.declared.chunk.ChunkTrack.{ChunkTrack}
 use Rattle.chunk.specs.declared.chunk.ChunkRoute.{ChunkRoute}
@@ -23,8 +26,11 @@ column f n = pieces (λ j. f j ∷ []) n
 abbrev pub advancingFrom : ℕ
 advancingFrom = trackPlaces
 
+abbrev pub placingsFrom : ℕ
+placingsFrom = advancingFrom + trackPlaces
+
 abbrev pub routeTracksFrom : ℕ
-routeTracksFrom = advancingFrom + trackPlaces
+routeTracksFrom = placingsFrom + trackPlaces
 
 abbrev pub routeSendsFrom : ℕ
 routeSendsFrom = routeTracksFrom + routeLines
@@ -59,13 +65,17 @@ soundCountPlace = routeCountPlace + 1
 abbrev pub placesSize : ℕ
 placesSize = soundCountPlace + 1
 
--- Of levels: two numbers a level (before and now), two levels a track (volume and fade) from 0 on, one a send track, and the main volume.
+-- Of levels: two numbers a level (before and now); from 0 on two levels a track (volume and fade) and its placing's number, then one level a send
+-- track, and the main volume.
 
 abbrev pub levelSize : ℕ
 levelSize = 2
 
+abbrev pub placingOffset : ℕ
+placingOffset = 2 * levelSize
+
 abbrev pub trackLevels : ℕ
-trackLevels = 2 * levelSize
+trackLevels = placingOffset + 1
 
 abbrev pub sendLevelsFrom : ℕ
 sendLevelsFrom = trackPlaces * trackLevels
@@ -76,16 +86,24 @@ mainFrom = sendLevelsFrom + sendLines * levelSize
 abbrev pub levelsSize : ℕ
 levelsSize = mainFrom + levelSize
 
+-- what stands for a placing in its column
+abbrev pub placingNumber : record { plain : ℕ; unheard : ℕ; spatial : ℕ }
+placingNumber = record { plain = 0; unheard = 1; spatial = 2 }
+
 -- ---- the chunk that the arrays stand for
 
 unfoldable pub levelFrom : List Float → ℕ → Level
 levelFrom levels i = record { before = record { 0 = getD levels i nan }; now = record { 0 = getD levels (i + 1) nan } }
+
+unfoldable pub placingFrom : ℕ → Float → Placing
+placingFrom kind level = cond (eqb kind (placingNumber .spatial)) (Spatial (record { 0 = level })) (cond (eqb kind (placingNumber .unheard)) Unheard Plain)
 
 unfoldable pub trackFrom : List ℕ → List Float → ℕ → ChunkTrack
 trackFrom places levels j =
     record {
       parent = getD places j 0;
       advancing = eqb (getD places (advancingFrom + j) 0) 1;
+      placing = placingFrom (getD places (placingsFrom + j) 0) (getD levels (trackLevels * j + placingOffset) nan);
       volume = levelFrom levels (trackLevels * j);
       fade = levelFrom levels (trackLevels * j + levelSize);
     }
@@ -130,6 +148,17 @@ chunkFrom places levels amplitudes =
 unfoldable pub flag : Bool → ℕ
 flag b = cond b 1 0
 
+unfoldable pub placingKind : Placing → ℕ
+placingKind Plain = placingNumber .plain
+placingKind Unheard = placingNumber .unheard
+placingKind (Spatial level) = placingNumber .spatial
+
+-- a level, and 0.0 where there is none
+unfoldable pub placingLevel : Placing → Float
+placingLevel Plain = ofInt binary32 (pos 0)
+placingLevel Unheard = ofInt binary32 (pos 0)
+placingLevel (Spatial level) = level .0
+
 -- from the sounds on
 unfoldable pub soundPlaces : Chunk → List ℕ
 soundPlaces c =
@@ -143,16 +172,20 @@ unfoldable pub placesOf : Chunk → List ℕ
 placesOf c =
     column (λ j. trackRow c j .parent) trackPlaces
     ++ (column (λ j. flag (trackRow c j .advancing)) trackPlaces
+    ++ (column (λ j. placingKind (trackRow c j .placing)) trackPlaces
     ++ (column (λ r. routeRow c r .track) routeLines
     ++ (column (λ r. routeRow c r .send) routeLines
-    ++ soundPlaces c)))
+    ++ soundPlaces c))))
 
 abbrev pub levelValues : Level → List Float
 levelValues l = l .before .0 ∷ l .now .0 ∷ []
 
+abbrev pub trackValues : ChunkTrack → List Float
+trackValues t = levelValues (t .volume) ++ (levelValues (t .fade) ++ (placingLevel (t .placing) ∷ []))
+
 unfoldable pub levelsOf : Chunk → List Float
 levelsOf c =
-    pieces (λ j. levelValues (trackRow c j .volume) ++ levelValues (trackRow c j .fade)) trackPlaces
+    pieces (λ j. trackValues (trackRow c j)) trackPlaces
     ++ (pieces (λ s. levelValues (sendRow c s)) sendLines
     ++ levelValues (c .main))
 

@@ -15,6 +15,7 @@ use limits::ROUTE_LINES;
 use limits::SEND_LINES;
 use limits::SOUND_LINES;
 use limits::TRACK_PLACES;
+use spatial::Placing;
 
 // A parameter before this chunk and at its end.
 pub struct Level {
@@ -26,6 +27,7 @@ pub struct ChunkTrack {
     // A line number from 1, or 0 for the mixer.
     pub parent: usize,
     pub advancing: bool,
+    pub placing: Placing,
     pub volume: Level,
     pub fade: Level,
 }

@@ -7,7 +7,7 @@ ghost use lib.Ieee.{nan};
 ghost use Rattle.limits.specs.Limits.{trackPlaces, sendLines, routeLines, soundLines};
 ghost use Rattle.chunk.specs.Chunk.{trackRow, routeRow, soundRow, sendRow};
 ghost use Rattle.chunk.specs.Flat.{placesSize, levelSize, trackLevels, levelsSize, routeTracksFrom, soundTracksFrom, sendLevelsFrom};
-ghost use Rattle.chunk.specs.Flat.{chunkFrom, levelFrom, flag, placesOf, levelsOf, amplitudesOf};
+ghost use Rattle.chunk.specs.Flat.{chunkFrom, levelFrom, placingFrom, flag, placingKind, placingLevel, placesOf, levelsOf, amplitudesOf};
 ghost use Rattle.chunk.specs.Written.{Written};
 use crate::chunk::Chunk;
 use crate::chunk::ChunkRoute;
@@ -20,13 +20,16 @@ use limits::ROUTE_LINES;
 use limits::SEND_LINES;
 use limits::SOUND_LINES;
 use limits::TRACK_PLACES;
+use spatial::Placing;
 
 // Where a column of `places` begins: the tracks' columns, the routes', the sounds'.
 pub const PARENTS: usize = 0;
 
 pub const ADVANCING: usize = PARENTS + TRACK_PLACES;
 
-const ROUTE_TRACKS: usize = ADVANCING + TRACK_PLACES;
+const PLACINGS: usize = ADVANCING + TRACK_PLACES;
+
+const ROUTE_TRACKS: usize = PLACINGS + TRACK_PLACES;
 
 const ROUTE_SENDS: usize = ROUTE_TRACKS + ROUTE_LINES;
 
@@ -53,10 +56,20 @@ pub const PLACES: usize = SOUND_COUNT + 1;
 
 pub type Places = [usize; PLACES];
 
-// A level is two numbers, before and now; a track has two levels, volume and fade.
+// What stands for a placing in its column.
+const PLAIN: usize = 0;
+
+const UNHEARD: usize = 1;
+
+const SPATIAL: usize = 2;
+
+// A level is two numbers, before and now; a track has two levels, volume and fade, and behind them
+// the one number of its placing.
 const LEVEL: usize = 2;
 
-const TRACK_LEVELS: usize = 2 * LEVEL;
+const PLACING_OFFSET: usize = 2 * LEVEL;
+
+const TRACK_LEVELS: usize = PLACING_OFFSET + 1;
 
 // Where a column of `levels` begins. The tracks' levels begin it.
 const SENDS: usize = TRACK_PLACES * TRACK_LEVELS;
@@ -83,15 +96,32 @@ fn level_at(levels: &Levels, at: usize) -> Level
     }
 }
 
+fn placing_from(kind: usize, level: f32) -> Placing
+    ensures { λ r. ⌜ r ≡ placingFrom kind level ⌝ }
+{
+    if kind == SPATIAL {
+        return Placing::Spatial(Decibels(level));
+    }
+    if kind == UNHEARD {
+        return Placing::Unheard;
+    }
+    Placing::Plain
+}
+
 pub fn track_at(places: &Places, levels: &Levels, amplitudes: &Amplitudes, j: usize) -> ChunkTrack
     requires { ⌜ j < trackPlaces ⌝ }
     ensures { λ r. ⌜ r ≡ trackRow (chunkFrom (now (places .entry)) (now (levels .entry)) (now (amplitudes .entry))) j ⌝ }
 {
     let volume = level_at(levels, TRACK_LEVELS * j);
     let fade = level_at(levels, TRACK_LEVELS * j + LEVEL);
+    let placing = placing_from(
+        places[PLACINGS + j],
+        levels[TRACK_LEVELS * j + PLACING_OFFSET],
+    );
     ChunkTrack {
         parent: places[j],
         advancing: places[ADVANCING + j] == 1,
+        placing: placing,
         volume: volume,
         fade: fade,
     }
@@ -140,6 +170,26 @@ fn flag(yes: bool) -> usize
     if yes { 1 } else { 0 }
 }
 
+fn placing_kind(placing: Placing) -> usize
+    ensures { λ r. ⌜ r ≡ placingKind placing ⌝ }
+{
+    match placing {
+        Placing::Plain => PLAIN,
+        Placing::Unheard => UNHEARD,
+        Placing::Spatial(_) => SPATIAL,
+    }
+}
+
+fn placing_level(placing: Placing) -> f32
+    ensures { λ r. ⌜ r ≡ placingLevel placing ⌝ }
+{
+    match placing {
+        Placing::Plain => 0.0,
+        Placing::Unheard => 0.0,
+        Placing::Spatial(level) => level.0,
+    }
+}
+
 fn put_level(levels: &mut Levels, at: usize, level: Level)
     requires { ⌜ at + 1 < levelsSize ⌝ }
     ensures { λ _. ⌜ now (levels .exit) ≡ set (set (now (levels .entry)) at (level .before .0)) (at + 1) (level .now .0) ⌝ }
@@ -153,7 +203,7 @@ fn put_level(levels: &mut Levels, at: usize, level: Level)
 fn flatten_tracks(chunk: Chunk, places: &mut Places, levels: &mut Levels)
     requires { ⌜ length (now places) ≡ placesSize ⌝ }
     requires { ⌜ length (now levels) ≡ levelsSize ⌝ }
-    ensures places { λ _. ⌜ Written 0 (placesOf chunk) 0 (2 * trackPlaces) (now (places .entry)) (now (places .exit)) ⌝ }
+    ensures places { λ _. ⌜ Written 0 (placesOf chunk) 0 (3 * trackPlaces) (now (places .entry)) (now (places .exit)) ⌝ }
     ensures levels { λ _. ⌜ Written nan (levelsOf chunk) 0 (trackPlaces * trackLevels) (now (levels .entry)) (now (levels .exit)) ⌝ }
 {
     let mut j = 0;
@@ -161,10 +211,13 @@ fn flatten_tracks(chunk: Chunk, places: &mut Places, levels: &mut Levels)
         let track = chunk.tracks[j];
         let volume = track.volume;
         let fade = track.fade;
+        let placing = track.placing;
         places[j] = track.parent;
         places[ADVANCING + j] = flag(track.advancing);
+        places[PLACINGS + j] = placing_kind(placing);
         put_level(levels, TRACK_LEVELS * j, volume);
         put_level(levels, TRACK_LEVELS * j + LEVEL, fade);
+        levels[TRACK_LEVELS * j + PLACING_OFFSET] = placing_level(placing);
         j += 1;
     }
 }

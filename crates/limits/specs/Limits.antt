@@ -16,6 +16,12 @@ routeLines = 64
 abbrev pub soundLines : ℕ
 soundLines = 64
 
+abbrev pub listenerLines : ℕ
+listenerLines = 1
+
+abbrev pub placingLines : ℕ
+placingLines = 32
+
 abbrev pub orderLines : ℕ
 orderLines = 128
 

@@ -11,6 +11,10 @@ pub const ROUTE_LINES: usize = 64;
 
 pub const SOUND_LINES: usize = 64;
 
+pub const LISTENER_LINES: usize = 1;
+
+pub const PLACING_LINES: usize = 32;
+
 pub const ORDER_LINES: usize = 128;
 
 // Tracks that a mixer has room for at once. That it is the number of lines too is so today, and no

@@ -32,6 +32,8 @@ use scene::RouteLine;
 use scene::Scene;
 use scene::SoundLine;
 use scene::TrackLine;
+use scene::TrackPlacing;
+use spatial::Placing;
 
 // A parameter before the chunk and at its end.
 fn level_of(parameter: Parameter) -> Level
@@ -52,8 +54,8 @@ fn empty_level() -> Level
     }
 }
 
-fn chunk_track(line: TrackLine, track: Track) -> ChunkTrack
-    ensures { λ r. ⌜ r ≡ chunkTrack line track ⌝ }
+fn chunk_track(line: TrackLine, placing: Placing, track: Track) -> ChunkTrack
+    ensures { λ r. ⌜ r ≡ chunkTrack line placing track ⌝ }
 {
     let volume = track.volume;
     let playback = track.playback;
@@ -61,6 +63,7 @@ fn chunk_track(line: TrackLine, track: Track) -> ChunkTrack
     ChunkTrack {
         parent: line.parent,
         advancing: track.live,
+        placing: placing,
         volume: level_of(volume),
         fade: level_of(fade),
     }
@@ -94,15 +97,17 @@ fn chunk_sound(line: SoundLine, done: usize) -> ChunkSound
 
 fn chunk_tracks(
     lines: [TrackLine; TRACK_LINES],
+    placings: [TrackPlacing; TRACK_LINES],
     count: usize,
     tracks: [Track; TRACK_PLACES],
 ) -> [ChunkTrack; TRACK_PLACES]
     requires { ⌜ count ≤ trackPlaces ⌝ }
-    ensures { λ r. ⌜ r ≡ chunkTracks lines count tracks ⌝ }
+    ensures { λ r. ⌜ r ≡ chunkTracks lines placings count tracks ⌝ }
 {
     let none = ChunkTrack {
         parent: 0,
         advancing: false,
+        placing: Placing::Plain,
         volume: empty_level(),
         fade: empty_level(),
     };
@@ -110,8 +115,10 @@ fn chunk_tracks(
     let mut t = 0;
     while t < count {
         let line = lines[t];
+        let placed = placings[t];
+        let placing = placed.placing;
         let track = tracks[t];
-        chunk[t] = chunk_track(line, track);
+        chunk[t] = chunk_track(line, placing, track);
         t += 1;
     }
     chunk
@@ -193,8 +200,9 @@ pub fn chunk_of(scene: Scene, mixer: Mixer, frames: usize, table: &GainTable) ->
     ensures { λ r. ⌜ r ≡ chunkOf scene frames mixer ⌝ }
 {
     let track_lines = scene.tracks;
+    let placings = scene.placings;
     let states = mixer.tracks;
-    let tracks = chunk_tracks(track_lines, scene.track_count, states);
+    let tracks = chunk_tracks(track_lines, placings, scene.track_count, states);
     let volumes = mixer.sends;
     let sends = chunk_sends(scene.send_count, volumes);
     let route_lines = scene.routes;

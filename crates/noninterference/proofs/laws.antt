@@ -30,6 +30,7 @@ pub mod LeftLines
 pub mod SceneLines
 pub mod KeptLines
 pub mod SoundsLeft
+pub mod PlacingsLeft
 pub mod FromAlike
 pub mod AlikeExample
 pub mod OrderLines

@@ -7,7 +7,7 @@ use mathlib.Core.List.{List, [], _∷_}
 use lib.ListN.{length, set}
 use Rattle.laws.specs.Kept.{rank, keptOf}
 use Rattle.laws.specs.Loop.{changed}
-use Rattle.scene_tables.specs.Tables.{natural, head, clocks, tracks, sends, routes, sounds, orders, raised, trackColumn, routeColumn, soundColumn, orderColumn, orderKind}
+use Rattle.scene_tables.specs.Tables.{natural, head, clocks, tracks, sends, routes, sounds, listener, placings, orders, raised, trackColumn, routeColumn, soundColumn, placingColumn, orderColumn, orderKind}
 use Rattle.scene_questions.specs.Questions.{Tables, rowsAt, field, cell, parentOf}
 
 -- the number of a line among the lines kept
@@ -46,6 +46,10 @@ removedRoute ts chosen r = namesRemoved (removedTrack ts chosen) (natural (cell 
 unfoldable pub removedSound : Tables → Choice → ℕ → Bool
 removedSound ts chosen k = inside ts chosen (natural (cell (rowsAt ts sounds) k (soundColumn .track)))
 
+-- the placings of chosen tracks, and those of removed ones
+unfoldable pub removedPlacing : Tables → Choice → ℕ → Bool
+removedPlacing ts chosen p = inside ts chosen (natural (cell (rowsAt ts placings) p (placingColumn .track)))
+
 -- the orders that name a removed track or route: one of the main volume names no line
 unfoldable pub removedOrder : Tables → Choice → ℕ → Bool
 removedOrder ts chosen i =
@@ -64,6 +68,9 @@ keptRoutes ts chosen r = not (removedRoute ts chosen r)
 
 abbrev pub keptSounds : Tables → Choice → ℕ → Bool
 keptSounds ts chosen k = not (removedSound ts chosen k)
+
+abbrev pub keptPlacings : Tables → Choice → ℕ → Bool
+keptPlacings ts chosen p = not (removedPlacing ts chosen p)
 
 abbrev pub keptOrders : Tables → Choice → ℕ → Bool
 keptOrders ts chosen i = not (removedOrder ts chosen i)
@@ -90,5 +97,7 @@ leftTables ts chosen =
     ∷ rowsAt ts sends
     ∷ linesLeft (keptRoutes ts chosen) (λ r row. renumbered (keptTracks ts chosen) (routeColumn .track) row) (rowsAt ts routes)
     ∷ linesLeft (keptSounds ts chosen) (λ k row. renumbered (keptTracks ts chosen) (soundColumn .track) row) (rowsAt ts sounds)
+    ∷ rowsAt ts listener
+    ∷ linesLeft (keptPlacings ts chosen) (λ p row. renumbered (keptTracks ts chosen) (placingColumn .track) row) (rowsAt ts placings)
     ∷ linesLeft (keptOrders ts chosen) (λ i row. renumberedOrder ts chosen row) (rowsAt ts orders)
     ∷ []

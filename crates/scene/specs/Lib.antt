@@ -1,1 +1,2 @@
 pub mod Scene
+pub mod Placed

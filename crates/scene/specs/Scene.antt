@@ -1,36 +1,47 @@
 -- What the tables of an accepted file are: the structs of src/scene.rt, from the numbers of each line.
 use mathlib.Core.Bool.{cond}
-use mathlib.Core.List.{List, [], _++_, map}
+use mathlib.Core.List.{List, [], _∷_, _++_, map}
 use Prim.Native.Nat.{ℕ, _-_, _*_}
 use lib.Dec.{eqb}
 use lib.IntN.{pos}
-use lib.ListN.{length, getD, replicate}
-use lib.Ieee.{binary32, binary64, ofInt, div, minus}
+use lib.ListN.{length, getD, set, replicate}
+use lib.Ieee.{Float, binary32, binary64, ofInt, div, minus}
 use Rattle.limits.specs.Limits.{clockLines, trackLines, sendLines, routeLines, soundLines, orderLines}
+use Rattle.laws.specs.Loop.{upto}
 use Rattle.decibels.specs.declared.decibels.Decibels.{Decibels}
 use Rattle.clock.specs.declared.clock_time.ClockTime.{ClockTime as Time}
 use Rattle.tween.specs.declared.tween.Easing.{Easing}
 use Rattle.tween.specs.declared.tween.Easing.the-variants.{Linear, InPowi, OutPowi, InOutPowi}
 use Rattle.tween.specs.declared.start_time.StartTime.{StartTime}
 use Rattle.tween.specs.declared.start_time.StartTime.the-variants.{Immediate, Delayed, ClockTime}
+use Rattle.spatial.specs.declared.spatial.Position.{Position}
+use Rattle.spatial.specs.declared.spatial.Distances.{Distances}
+use Rattle.spatial.specs.declared.placing.Placing.{Placing}
+use Rattle.spatial.specs.declared.placing.Placing.the-variants.{Plain, Unheard, Spatial}
+use Rattle.spatial.specs.Spatial.{attenuation}
 use Rattle.scene.specs.declared.scene.Head.{Head}
 use Rattle.scene.specs.declared.scene.ClockLine.{ClockLine}
 use Rattle.scene.specs.declared.scene.TrackLine.{TrackLine}
 use Rattle.scene.specs.declared.scene.SendLine.{SendLine}
 use Rattle.scene.specs.declared.scene.RouteLine.{RouteLine}
 use Rattle.scene.specs.declared.scene.SoundLine.{SoundLine}
+use Rattle.scene.specs.declared.scene.TrackPlacing.{TrackPlacing}
 use Rattle.scene.specs.declared.scene.OrderKind.{OrderKind}
 use Rattle.scene.specs.declared.scene.OrderKind.the-variants.{MainVolume, TrackVolume, SendVolume, RouteVolume, Pause, Resume}
 use Rattle.scene.specs.declared.scene.OrderLine.{OrderLine}
 use Rattle.scene.specs.declared.scene.Scene.{Scene}
-use Rattle.scene_tables.specs.Tables.{natural, head, clocks, tracks, sends, routes, sounds, orders, raised, headColumn, clockColumn, trackColumn, sendColumn, routeColumn, soundColumn, orderColumn, orderKind}
-use Rattle.scene_questions.specs.Questions.{Tables, rowsAt, linesAt, field, speedOf}
+use Rattle.scene_tables.specs.Tables.{natural, head, clocks, tracks, sends, routes, sounds, listener, placings, orders, raised, headColumn, clockColumn, trackColumn, sendColumn, routeColumn, soundColumn, listenerColumn, placingColumn, orderColumn, orderKind}
+use Rattle.scene_questions.specs.Questions.{Tables, rowsAt, linesAt, field, cell, speedOf}
 
 -- ---- single values
 
--- A volume is thousandths of a decibel, made an f32 by dividing by 1000. A raised number z stands for z - 2^31.
+-- Thousandths are made an f32 by dividing by 1000. A raised number z stands for z - 2^31.
+abbrev pub thousandths : ℕ → Float
+thousandths z = div binary32 (ofInt binary32 (minus z 2147483648)) (ofInt binary32 (pos 1000))
+
+-- A volume is thousandths of a decibel.
 unfoldable pub volumeOf : ℕ → Decibels
-volumeOf z = record { 0 = div binary32 (ofInt binary32 (minus z 2147483648)) (ofInt binary32 (pos 1000)) }
+volumeOf z = record { 0 = thousandths z }
 
 unfoldable pub kindOf : ℕ → OrderKind
 kindOf z =
@@ -101,7 +112,35 @@ orderOf row =
       easing = easingOf (field row (orderColumn .easing)) (field row (orderColumn .power));
     }
 
+-- the listener's position
+unfoldable pub listenerOf : List ℕ → Position
+listenerOf row = record { x = thousandths (field row (listenerColumn .x)); y = thousandths (field row (listenerColumn .y)); z = thousandths (field row (listenerColumn .z)) }
+
+-- a placed track's
+unfoldable pub positionOf : List ℕ → Position
+positionOf row = record { x = thousandths (field row (placingColumn .x)); y = thousandths (field row (placingColumn .y)); z = thousandths (field row (placingColumn .z)) }
+
+unfoldable pub distancesOf : List ℕ → Distances
+distancesOf row = record { «min_distance» = thousandths (field row (placingColumn .near)); «max_distance» = thousandths (field row (placingColumn .far)) }
+
+-- Without a listener a placed track is not heard.
+unfoldable pub placingOf : List (List ℕ) → List ℕ → Placing
+placingOf [] row = Unheard
+placingOf (listenerRow ∷ rest) row = Spatial (attenuation (listenerOf listenerRow) (positionOf row) (distancesOf row))
+
 -- ---- the scene
+
+-- A line of the placings places its track.
+abbrev pub placingStep : Tables → ℕ → List TrackPlacing → List TrackPlacing
+placingStep ts i done =
+    set done (natural (cell (rowsAt ts placings) i (placingColumn .track)) - 1) (record { placing = placingOf (rowsAt ts listener) (getD (rowsAt ts placings) i []) })
+
+abbrev pub allPlain : List TrackPlacing
+allPlain = replicate trackLines (record { placing = Plain })
+
+-- of each track line its placing; those that no line places are plain
+unfoldable pub placingsOf : Tables → List TrackPlacing
+placingsOf ts = upto (placingStep ts) (linesAt ts placings) allPlain
 
 -- The lines of a table in their order, and then places with no line, which nothing reads: there stands what a line of no fields gives.
 unfoldable pub filled : {X : Type 0} → ℕ → (List ℕ → X) → List (List ℕ) → List X
@@ -121,6 +160,7 @@ sceneOf ts =
       routes = filled routeLines routeOf (rowsAt ts routes);
       «sound_count» = linesAt ts sounds;
       sounds = filled soundLines soundOf (rowsAt ts sounds);
+      placings = placingsOf ts;
       «order_count» = linesAt ts orders;
       orders = filled orderLines orderOf (rowsAt ts orders);
     }

@@ -10,5 +10,6 @@ pub use scene::Scene;
 pub use scene::SendLine;
 pub use scene::SoundLine;
 pub use scene::TrackLine;
+pub use scene::TrackPlacing;
 pub use scene::no_scene;
 pub use scene::scene_of;

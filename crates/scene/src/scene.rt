@@ -5,10 +5,12 @@ ghost use mathlib.Core.List.{[]};
 ghost use Prim.Native.Nat.{_+_, _-_, _*_, _≤_};
 ghost use lib.ListN.{take, drop};
 ghost use Rattle.limits.specs.Limits.{clockLines, trackLines, sendLines, routeLines, soundLines, orderLines};
-ghost use Rattle.scene_tables.specs.Tables.{tableAt, width, head, clocks, tracks, sends, routes, sounds, orders};
+ghost use Rattle.scene_tables.specs.Tables.{tableAt, width, head, clocks, tracks, sends, routes, sounds, listener, placings, orders};
 ghost use Rattle.scene_questions.specs.Places.{rowsIn, stored, countsFit, placesMost, Low};
-ghost use Rattle.scene.specs.Scene.{volumeOf, kindOf, clockTimeOf, startTimeOf, easingOf};
+ghost use Rattle.scene.specs.Scene.{thousandths, volumeOf, kindOf, clockTimeOf, startTimeOf, easingOf};
 ghost use Rattle.scene.specs.Scene.{headOf, clockOf, trackOf, sendOf, routeOf, soundOf, orderOf, filled, sceneOf};
+ghost use Rattle.scene.specs.Scene.{listenerOf, positionOf, distancesOf, placingOf, placingsOf};
+ghost use Rattle.scene.specs.Placed.{ListenersOk, PlacingOk, PlacingsOk};
 use clock::ClockSpeed;
 use clock::ClockTime;
 use decibels::Decibels;
@@ -28,8 +30,10 @@ use scene_tables::KIND_PAUSE;
 use scene_tables::KIND_ROUTE_VOLUME;
 use scene_tables::KIND_SEND_VOLUME;
 use scene_tables::KIND_TRACK_VOLUME;
+use scene_tables::LISTENER;
 use scene_tables::ONE;
 use scene_tables::ORDERS;
+use scene_tables::PLACINGS;
 use scene_tables::ROUTES;
 use scene_tables::SENDS;
 use scene_tables::SOUNDS;
@@ -38,6 +42,10 @@ use scene_tables::TRACKS;
 use scene_tables::TWO;
 use scene_tables::ZERO;
 use scene_tables::column;
+use spatial::Distances;
+use spatial::Placing;
+use spatial::Position;
+use spatial::attenuation;
 use tween::Easing;
 use tween::StartTime;
 
@@ -81,6 +89,11 @@ pub struct SoundLine {
     pub from: usize,
 }
 
+// How a track stands in the room. (A field may hold an array of structs, not one of enums.)
+pub struct TrackPlacing {
+    pub placing: Placing,
+}
+
 pub enum OrderKind {
     MainVolume,
     TrackVolume,
@@ -113,18 +126,26 @@ pub struct Scene {
     pub routes: [RouteLine; ROUTE_LINES],
     pub sound_count: usize,
     pub sounds: [SoundLine; SOUND_LINES],
+    // Of each track line.
+    pub placings: [TrackPlacing; TRACK_LINES],
     pub order_count: usize,
     pub orders: [OrderLine; ORDER_LINES],
 }
 
-// Thousandths of a decibel, made an f32 by dividing by 1000.
+// Thousandths are made an f32 by dividing by 1000.
+fn thousandths(z: u32) -> f32
+    ensures { λ r. ⌜ r ≡ thousandths z ⌝ }
+{
+    if z < ZERO {
+        return -std::num::nearest_u32_to_f32(ZERO - z) / 1000.0;
+    }
+    std::num::nearest_u32_to_f32(z - ZERO) / 1000.0
+}
+
 fn volume_of(z: u32) -> Decibels
     ensures { λ r. ⌜ r ≡ volumeOf z ⌝ }
 {
-    if z < ZERO {
-        return Decibels(-std::num::nearest_u32_to_f32(ZERO - z) / 1000.0);
-    }
-    Decibels(std::num::nearest_u32_to_f32(z - ZERO) / 1000.0)
+    Decibels(thousandths(z))
 }
 
 fn kind_of(z: u32) -> OrderKind
@@ -370,10 +391,83 @@ fn order_lines(values: &[u32], start: usize, lines: usize) -> [OrderLine; ORDER_
     out
 }
 
+fn listener_of(values: &[u32], a: usize) -> Position
+    ensures { λ r. ⌜ r ≡ listenerOf (take (width (tableAt listener)) (drop a (now (values .entry)))) ⌝ }
+{
+    Position {
+        x: thousandths(at(values, a, column::LISTENER_X)),
+        y: thousandths(at(values, a, column::LISTENER_Y)),
+        z: thousandths(at(values, a, column::LISTENER_Z)),
+    }
+}
+
+fn position_of(values: &[u32], a: usize) -> Position
+    ensures { λ r. ⌜ r ≡ positionOf (take (width (tableAt placings)) (drop a (now (values .entry)))) ⌝ }
+{
+    Position {
+        x: thousandths(at(values, a, column::PLACING_X)),
+        y: thousandths(at(values, a, column::PLACING_Y)),
+        z: thousandths(at(values, a, column::PLACING_Z)),
+    }
+}
+
+fn distances_of(values: &[u32], a: usize) -> Distances
+    ensures { λ r. ⌜ r ≡ distancesOf (take (width (tableAt placings)) (drop a (now (values .entry)))) ⌝ }
+{
+    Distances {
+        min_distance: thousandths(at(values, a, column::PLACING_NEAR)),
+        max_distance: thousandths(at(values, a, column::PLACING_FAR)),
+    }
+}
+
+// The placing of the line at `a`, for the listener whose table begins at `start`.
+fn placing_of(values: &[u32], start: usize, lines: usize, a: usize) -> Placing
+    requires { ⌜ ListenersOk (rowsIn (now values) start (width (tableAt listener)) lines) ⌝ }
+    requires { ⌜ PlacingOk (take (width (tableAt placings)) (drop a (now values))) ⌝ }
+    ensures { λ r. ⌜ r ≡ placingOf (rowsIn (now (values .entry)) start (width (tableAt listener)) lines) (take (width (tableAt placings)) (drop a (now (values .entry)))) ⌝ }
+{
+    if lines == 0 {
+        return Placing::Unheard;
+    }
+    let listener = listener_of(values, start);
+    let position = position_of(values, a);
+    Placing::Spatial(attenuation(listener, position, distances_of(values, a)))
+}
+
+// Each track's placing: tracks that no line places are plain.
+fn placings_of(
+    values: &[u32],
+    starts: &[usize; TABLES],
+    counts: &[usize; TABLES],
+) -> [TrackPlacing; TRACK_LINES]
+    requires { ⌜ Low (now starts) (now counts) ⌝ }
+    requires { ⌜ PlacingsOk (stored (now starts) (now counts) (now values)) ⌝ }
+    ensures { λ r. ⌜ r ≡ placingsOf (stored (now (starts .entry)) (now (counts .entry)) (now (values .entry))) ⌝ }
+{
+    let listener = starts[LISTENER];
+    let listeners = counts[LISTENER];
+    let start = starts[PLACINGS];
+    let lines = counts[PLACINGS];
+    let plain = TrackPlacing {
+        placing: Placing::Plain,
+    };
+    let mut out = [plain; TRACK_LINES];
+    let mut i = 0;
+    while i < lines {
+        let a = start + i * column::PLACING_COLUMNS;
+        let track = natural_of(at(values, a, column::PLACING_TRACK));
+        let placing = placing_of(values, listener, listeners, a);
+        out[track - 1] = TrackPlacing { placing };
+        i += 1;
+    }
+    out
+}
+
 // The scene that the tables give.
 pub fn scene_of(values: &[u32], starts: &[usize; TABLES], counts: &[usize; TABLES]) -> Scene
     requires { ⌜ Low (now starts) (now counts) ⌝ }
     requires { ⌜ countsFit (now counts) ≡ true ⌝ }
+    requires { ⌜ PlacingsOk (stored (now starts) (now counts) (now values)) ⌝ }
     ensures { λ r. ⌜ r ≡ sceneOf (stored (now (starts .entry)) (now (counts .entry)) (now (values .entry))) ⌝ }
 {
     let head = head_of(values, starts[HEAD]);
@@ -382,6 +476,7 @@ pub fn scene_of(values: &[u32], starts: &[usize; TABLES], counts: &[usize; TABLE
     let sends = send_lines(values, starts[SENDS], counts[SENDS]);
     let routes = route_lines(values, starts[ROUTES], counts[ROUTES]);
     let sounds = sound_lines(values, starts[SOUNDS], counts[SOUNDS]);
+    let placings = placings_of(values, starts, counts);
     let orders = order_lines(values, starts[ORDERS], counts[ORDERS]);
     Scene {
         head,
@@ -395,6 +490,7 @@ pub fn scene_of(values: &[u32], starts: &[usize; TABLES], counts: &[usize; TABLE
         routes,
         sound_count: counts[SOUNDS],
         sounds,
+        placings,
         order_count: counts[ORDERS],
         orders,
     }
@@ -411,6 +507,10 @@ pub fn no_scene() -> Scene
     let sends = send_lines(&values, 1, 0);
     let routes = route_lines(&values, 1, 0);
     let sounds = sound_lines(&values, 1, 0);
+    let plain = TrackPlacing {
+        placing: Placing::Plain,
+    };
+    let placings = [plain; TRACK_LINES];
     let orders = order_lines(&values, 1, 0);
     Scene {
         head,
@@ -424,6 +524,7 @@ pub fn no_scene() -> Scene
         routes,
         sound_count: 0,
         sounds,
+        placings,
         order_count: 0,
         orders,
     }

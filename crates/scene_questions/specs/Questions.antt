@@ -15,9 +15,9 @@ use Rattle.clock.specs.ClockSpeed.{allowedSpeed}
 use Rattle.scene_tables.specs.declared.tables.Field.{Field}
 use Rattle.scene_tables.specs.declared.tables.Field.the-variants.{Number, Line, Earlier, Index}
 use Rattle.scene_tables.specs.declared.tables.LineRule.{LineRule}
-use Rattle.scene_tables.specs.declared.tables.LineRule.the-variants.{Plain, Speed, Order}
+use Rattle.scene_tables.specs.declared.tables.LineRule.the-variants.{Plain, Speed, Apart, Order}
 use Rattle.scene_tables.specs.Bytes.{every}
-use Rattle.scene_tables.specs.Tables.{tables, tableAt, noField, width, natural, head, tracks, sends, routes, sounds, raised, headColumn, clockColumn, trackColumn, routeColumn, soundColumn, orderColumn, orderKind}
+use Rattle.scene_tables.specs.Tables.{tables, tableAt, noField, width, natural, head, tracks, sends, routes, sounds, placings, raised, headColumn, clockColumn, trackColumn, routeColumn, soundColumn, placingColumn, orderColumn, orderKind}
 use Rattle.scene_file.specs.Grammar.{lineFeed, linesOf, sectionsOf, areTables, tablesOf}
 
 -- ---- the numbers of the tables, by place: lines and fields counted from 0
@@ -49,7 +49,7 @@ headCell ts j = cell (rowsAt ts head) 0 j
 unfoldable pub sizeOk : List ℕ → Bool
 sizeOk file = leb 1 (length file) && leb (length file) fileBytes && eqb (getD file (length file - 1) 0) lineFeed
 
--- ---- 2. Are the seven names lines there as spelled, in order, each value line with its count of numbers within
+-- ---- 2. Are the nine names lines there as spelled, in order, each value line with its count of numbers within
 -- -2147483648..2147483647, and nothing else?
 
 unfoldable pub spelledOk : List ℕ → Bool
@@ -113,9 +113,14 @@ orderFits blocks row =
     && millisFit (field row (orderColumn .kind)) (field row (orderColumn .clock)) (field row (orderColumn .when)) (field row (orderColumn .millis))
     && powerFits (field row (orderColumn .easing)) (field row (orderColumn .power))
 
+-- A placing's nearest distance is less than its farthest.
+unfoldable pub distancesApart : List ℕ → Bool
+distancesApart row = ltb (field row (placingColumn .near)) (field row (placingColumn .far))
+
 unfoldable pub lineInRange : ℕ → LineRule → List ℕ → Bool
 lineInRange blocks Plain row = true
 lineInRange blocks Speed row = allowedSpeed (speedOf (field row (clockColumn .unit)) (field row (clockColumn .speed)))
+lineInRange blocks Apart row = distancesApart row
 lineInRange blocks Order row = orderFits blocks row
 
 unfoldable pub rangesOk : Tables → Bool
@@ -142,6 +147,7 @@ indexNamesLine lines kind index =
 unfoldable pub lineNamesLine : (ℕ → ℕ) → LineRule → List ℕ → Bool
 lineNamesLine lines Plain row = true
 lineNamesLine lines Speed row = true
+lineNamesLine lines Apart row = true
 lineNamesLine lines Order row = indexNamesLine lines (field row (orderColumn .kind)) (field row (orderColumn .index))
 
 unfoldable pub referencesOk : Tables → Bool
@@ -162,7 +168,7 @@ withinDepth (suc d) rows line = cond (eqb line 0) true (withinDepth d rows (pare
 unfoldable pub depthsFit : List (List ℕ) → Bool
 depthsFit rows = every (length rows) (λ i. withinDepth trackDepth rows (suc i))
 
--- ---- 7. Is no track-and-send pair routed twice?
+-- ---- 7. Is no track-and-send pair routed twice, and no track placed twice?
 
 unfoldable pub samePair : List (List ℕ) → ℕ → ℕ → Bool
 samePair rows i k =
@@ -174,6 +180,13 @@ newPair rows i = every i (λ k. not (samePair rows i k))
 
 unfoldable pub routesFit : List (List ℕ) → Bool
 routesFit rows = every (length rows) (newPair rows)
+
+-- no line before line i places its track
+unfoldable pub newPlacing : List (List ℕ) → ℕ → Bool
+newPlacing rows i = every i (λ k. not (eqb (cell rows i (placingColumn .track)) (cell rows k (placingColumn .track))))
+
+unfoldable pub placingsFit : List (List ℕ) → Bool
+placingsFit rows = every (length rows) (newPlacing rows)
 
 -- ---- 8. Has the sample buffer an even length, and does the first + count of each sound from it stay within its frames?
 
@@ -220,6 +233,7 @@ tableQuestions ts samples =
     ∷ (5, referencesOk ts)
     ∷ (6, depthsFit (rowsAt ts tracks))
     ∷ (7, routesFit (rowsAt ts routes))
+    ∷ (7, placingsFit (rowsAt ts placings))
     ∷ (8, soundsFit (rowsAt ts sounds) fromHouse (samples .house))
     ∷ (8, soundsFit (rowsAt ts sounds) fromVisitor (samples .visitor))
     ∷ (9, samplesOk (samples .house))

@@ -9,4 +9,5 @@ pub use lengths::size_ok;
 pub use samples::samples_ok;
 pub use samples::sounds_fit;
 pub use tracks::depths_fit;
+pub use tracks::placings_fit;
 pub use tracks::routes_fit;

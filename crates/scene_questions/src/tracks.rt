@@ -2,12 +2,14 @@
 ghost use mathlib.Core.Path.{_≡_};
 ghost use Prim.Native.Nat.{_+_, _*_, _≤_, _<_};
 ghost use Rattle.limits.specs.Limits.{trackDepth};
-ghost use Rattle.scene_tables.specs.Tables.{tableAt, width, tracks, routes};
-ghost use Rattle.scene_questions.specs.Questions.{parentOf, withinDepth, depthsFit, samePair, newPair, routesFit};
+ghost use Rattle.scene_tables.specs.Tables.{tableAt, width, tracks, routes, placings};
+ghost use Rattle.scene_questions.specs.Questions.{parentOf, withinDepth, depthsFit, samePair, newPair, routesFit, newPlacing, placingsFit};
 ghost use Rattle.scene_questions.specs.Places.{rowsIn, placesMost};
 use limits::TRACK_DEPTH;
 use scene_file::at;
 use scene_file::natural_of;
+use scene_tables::column::PLACING_COLUMNS;
+use scene_tables::column::PLACING_TRACK;
 use scene_tables::column::ROUTE_COLUMNS;
 use scene_tables::column::ROUTE_SEND;
 use scene_tables::column::ROUTE_TRACK;
@@ -91,7 +93,7 @@ fn new_pair(values: &[u32], start: usize, lines: usize, i: usize) -> bool
     true
 }
 
-// Question 7.
+// Question 7, of the routes.
 pub fn routes_fit(values: &[u32], start: usize, lines: usize) -> bool
     requires { ⌜ start + lines * width (tableAt routes) ≤ placesMost ⌝ }
     ensures { λ r. ⌜ r ≡ routesFit (rowsIn (now (values .entry)) start (width (tableAt routes)) lines) ⌝ }
@@ -99,6 +101,38 @@ pub fn routes_fit(values: &[u32], start: usize, lines: usize) -> bool
     let mut i = 0;
     while i < lines {
         if !new_pair(values, start, lines, i) {
+            return false;
+        }
+        i += 1;
+    }
+    true
+}
+
+// Whether no line before line i places its track.
+fn new_placing(values: &[u32], start: usize, lines: usize, i: usize) -> bool
+    requires { ⌜ start + lines * width (tableAt placings) ≤ placesMost ⌝ }
+    requires { ⌜ i < lines ⌝ }
+    ensures { λ r. ⌜ r ≡ newPlacing (rowsIn (now (values .entry)) start (width (tableAt placings)) lines) i ⌝ }
+{
+    let track = at(values, start + i * PLACING_COLUMNS, PLACING_TRACK);
+    let mut earlier = 0;
+    while earlier < i {
+        if track == at(values, start + earlier * PLACING_COLUMNS, PLACING_TRACK) {
+            return false;
+        }
+        earlier += 1;
+    }
+    true
+}
+
+// Question 7, of the placings.
+pub fn placings_fit(values: &[u32], start: usize, lines: usize) -> bool
+    requires { ⌜ start + lines * width (tableAt placings) ≤ placesMost ⌝ }
+    ensures { λ r. ⌜ r ≡ placingsFit (rowsIn (now (values .entry)) start (width (tableAt placings)) lines) ⌝ }
+{
+    let mut i = 0;
+    while i < lines {
+        if !new_placing(values, start, lines, i) {
             return false;
         }
         i += 1;

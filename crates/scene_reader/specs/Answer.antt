@@ -18,13 +18,13 @@ also (suc place) test (q ∷ questions) = q ∷ also place test questions
 
 -- how many questions are asked of the tables, and where question 8 stands among them: of the house's samples, and of the visitor's
 abbrev pub questionsOfTables : ℕ
-questionsOfTables = 9
+questionsOfTables = 10
 
 abbrev pub houseSounds : ℕ
-houseSounds = 5
+houseSounds = 6
 
 abbrev pub visitorSounds : ℕ
-visitorSounds = 6
+visitorSounds = 7
 
 -- questions 3 to 9, of samples that may have been cut short: a buffer that is not whole is a no to question 8, at its turn
 unfoldable pub readTableQuestions : Tables → Recordings → Bool → Bool → List Question

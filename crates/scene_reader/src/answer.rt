@@ -18,6 +18,7 @@ use scene::scene_of;
 use scene_file::at;
 use scene_file::read_tables;
 use scene_questions::depths_fit;
+use scene_questions::placings_fit;
 use scene_questions::routes_fit;
 use scene_questions::samples_ok;
 use scene_questions::size_ok;
@@ -25,6 +26,7 @@ use scene_questions::sounds_fit;
 use scene_rules::counts_fit;
 use scene_rules::tables_pass;
 use scene_tables::HEAD;
+use scene_tables::PLACINGS;
 use scene_tables::ROUTES;
 use scene_tables::SOUNDS;
 use scene_tables::TABLES;
@@ -34,11 +36,11 @@ use scene_tables::column;
 // Numbers that a file can have: each takes two bytes or more.
 const VALUES: usize = FILE_BYTES / 2 + 1;
 
-// The questions that are asked of the tables, by their numbers. Questions 8 and 9 are each asked of the
-// house's samples, then of the visitor's.
-const QUESTIONS: usize = 9;
+// The questions that are asked of the tables, by their numbers. Question 7 is asked of the routes, then of
+// the placings, and 8 and 9 each of the house's samples, then of the visitor's.
+const QUESTIONS: usize = 10;
 
-const NUMBERS: [u32; QUESTIONS] = [3, 4, 5, 6, 7, 8, 8, 9, 9];
+const NUMBERS: [u32; QUESTIONS] = [3, 4, 5, 6, 7, 7, 8, 8, 9, 9];
 
 // The number of the first question that says no, and the scene where it is 0.
 pub struct Answer {
@@ -94,9 +96,9 @@ fn samples_pass<'a>(
     let start = starts[SOUNDS];
     let lines = counts[SOUNDS];
     match place {
-        5 => sounds_pass(whole, values, start, lines, HOUSE, samples),
-        6 => sounds_pass(visitor_whole, values, start, lines, VISITOR, visitor),
-        7 => samples_ok(samples),
+        6 => sounds_pass(whole, values, start, lines, HOUSE, samples),
+        7 => sounds_pass(visitor_whole, values, start, lines, VISITOR, visitor),
+        8 => samples_ok(samples),
         _ => samples_ok(visitor),
     }
 }
@@ -130,6 +132,7 @@ fn passes<'a>(
         2 => tables_pass(true, values, starts, counts, 0),
         3 => depths_fit(values, starts[TRACKS], counts[TRACKS]),
         4 => routes_fit(values, starts[ROUTES], counts[ROUTES]),
+        5 => placings_fit(values, starts[PLACINGS], counts[PLACINGS]),
         _ => samples_pass(
             place,
             values,

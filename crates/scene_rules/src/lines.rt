@@ -271,6 +271,12 @@ fn line_passes(
                 at(values, a, column::CLOCK_SPEED),
             )
         }
+        LineRule::Apart => {
+            if references {
+                return true;
+            }
+            at(values, a, column::PLACING_NEAR) < at(values, a, column::PLACING_FAR)
+        }
         LineRule::Order => {
             if references {
                 return index_names_line(

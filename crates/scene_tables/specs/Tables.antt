@@ -5,11 +5,11 @@ use mathlib.Core.List.{List, [], _∷_}
 use Prim.Native.Nat.{ℕ, _+_, _-_}
 use Prim.Native.String.{String}
 use lib.ListN.{length, getD}
-use Rattle.limits.specs.Limits.{clockLines, trackLines, sendLines, routeLines, soundLines, orderLines}
+use Rattle.limits.specs.Limits.{clockLines, trackLines, sendLines, routeLines, soundLines, listenerLines, placingLines, orderLines}
 use Rattle.scene_tables.specs.declared.tables.Field.{Field}
 use Rattle.scene_tables.specs.declared.tables.Field.the-variants.{Number, Line, Earlier, Index}
 use Rattle.scene_tables.specs.declared.tables.LineRule.{LineRule}
-use Rattle.scene_tables.specs.declared.tables.LineRule.the-variants.{Plain, Speed, Order}
+use Rattle.scene_tables.specs.declared.tables.LineRule.the-variants.{Plain, Speed, Apart, Order}
 
 -- A number of the file is kept as a natural number, raised by 2^31: `plus 3` stands for 3 and `minus 3` for -3, so that the
 -- numbers from -2147483648 to 2147483647 are 0 to 2^32 - 1 in their order.
@@ -26,7 +26,7 @@ natural z = z - 2147483648
 -- The rule of a field: `Number a b` is a number from a to b, both included; `Line k a` is a line number of table k, from a on
 -- (0 where 0 stands for something else, as the main track does); `Earlier` is 0 or the number of an earlier line of the same table;
 -- `Index` is an order's index, whose table goes by the order's kind.
--- The rule of a line as a whole: `Speed` and `Order` have one of their own, stated in Questions.antt.
+-- The rule of a line as a whole: `Speed`, `Apart` and `Order` have one of their own, stated in Questions.antt.
 pub record Table : Type 0 where
   pub names : String
   pub least : ℕ
@@ -60,8 +60,14 @@ routes = 4
 abbrev pub sounds : ℕ
 sounds = 5
 
+abbrev pub listener : ℕ
+listener = 6
+
+abbrev pub placings : ℕ
+placings = 7
+
 abbrev pub orders : ℕ
-orders = 6
+orders = 8
 
 -- thousandths of a decibel
 abbrev pub volume : Field
@@ -69,6 +75,10 @@ volume = Number (raisedMinus 96000) (raised 18000)
 
 abbrev pub within : ℕ → ℕ → Field
 within a b = Number (raised a) (raised b)
+
+-- thousandths of the unit of length
+abbrev pub coordinate : Field
+coordinate = Number (raisedMinus 1000000) (raised 1000000)
 
 abbrev pub tables : List Table
 tables =
@@ -79,6 +89,9 @@ tables =
     ∷ table "volume" 0 sendLines Plain (volume ∷ [])
     ∷ table "track send volume" 0 routeLines Plain (Line tracks (raised 1) ∷ Line sends (raised 1) ∷ volume ∷ [])
     ∷ table "track first count from" 0 soundLines Plain (Line tracks (raised 0) ∷ within 0 2147483647 ∷ within 0 2147483647 ∷ within 0 1 ∷ [])
+    ∷ table "x y z" 0 listenerLines Plain (coordinate ∷ coordinate ∷ coordinate ∷ [])
+    ∷ table "track x y z near far" 0 placingLines Apart
+    (Line tracks (raised 1) ∷ coordinate ∷ coordinate ∷ coordinate ∷ within 0 1000000 ∷ within 0 1000000 ∷ [])
     ∷ table "block kind index volume clock when part millis easing power" 0 orderLines Order
     (within 0 1023
     ∷ within 0 5
@@ -121,6 +134,12 @@ routeColumn = record { track = 0; send = 1; volume = 2 }
 
 abbrev pub soundColumn : record { track : ℕ; first : ℕ; count : ℕ; from : ℕ }
 soundColumn = record { track = 0; first = 1; count = 2; from = 3 }
+
+abbrev pub listenerColumn : record { x : ℕ; y : ℕ; z : ℕ }
+listenerColumn = record { x = 0; y = 1; z = 2 }
+
+abbrev pub placingColumn : record { track : ℕ; x : ℕ; y : ℕ; z : ℕ; near : ℕ; far : ℕ }
+placingColumn = record { track = 0; x = 1; y = 2; z = 3; near = 4; far = 5 }
 
 abbrev pub orderColumn : record { block : ℕ; kind : ℕ; index : ℕ; volume : ℕ; clock : ℕ; when : ℕ; part : ℕ; millis : ℕ; easing : ℕ; power : ℕ }
 orderColumn = record { block = 0; kind = 1; index = 2; volume = 3; clock = 4; when = 5; part = 6; millis = 7; easing = 8; power = 9 }

@@ -50,6 +50,28 @@ pub const SOUND_FROM: usize = 3;
 
 pub const SOUND_COLUMNS: usize = 4;
 
+pub const LISTENER_X: usize = 0;
+
+pub const LISTENER_Y: usize = 1;
+
+pub const LISTENER_Z: usize = 2;
+
+pub const LISTENER_COLUMNS: usize = 3;
+
+pub const PLACING_TRACK: usize = 0;
+
+pub const PLACING_X: usize = 1;
+
+pub const PLACING_Y: usize = 2;
+
+pub const PLACING_Z: usize = 3;
+
+pub const PLACING_NEAR: usize = 4;
+
+pub const PLACING_FAR: usize = 5;
+
+pub const PLACING_COLUMNS: usize = 6;
+
 pub const ORDER_BLOCK: usize = 0;
 
 pub const ORDER_KIND: usize = 1;

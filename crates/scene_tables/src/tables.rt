@@ -8,7 +8,9 @@ ghost use Rattle.scene_tables.specs.Tables.{tables, tableAt, noField};
 ghost use Rattle.scene_tables.specs.InCode.{namesText, ruleOf, allFields};
 use crate::column;
 use limits::CLOCK_LINES;
+use limits::LISTENER_LINES;
 use limits::ORDER_LINES;
+use limits::PLACING_LINES;
 use limits::ROUTE_LINES;
 use limits::SEND_LINES;
 use limits::SOUND_LINES;
@@ -30,6 +32,7 @@ pub enum Field {
 pub enum LineRule {
     Plain,
     Speed,
+    Apart,
     Order,
 }
 
@@ -53,7 +56,10 @@ pub const QUIETEST: u32 = ZERO - 96000;
 
 pub const LOUDEST: u32 = ZERO + 18000;
 
-pub const TABLES: usize = 7;
+// Thousandths of the unit of length.
+pub const FARTHEST: u32 = 1000000;
+
+pub const TABLES: usize = 9;
 
 pub const HEAD: usize = 0;
 
@@ -67,7 +73,11 @@ pub const ROUTES: usize = 4;
 
 pub const SOUNDS: usize = 5;
 
-pub const ORDERS: usize = 6;
+pub const LISTENER: usize = 6;
+
+pub const PLACINGS: usize = 7;
+
+pub const ORDERS: usize = 8;
 
 // The kinds of orders, raised.
 pub const KIND_MAIN_VOLUME: u32 = ZERO;
@@ -83,11 +93,11 @@ pub const KIND_PAUSE: u32 = ZERO + 4;
 pub const KIND_RESUME: u32 = ZERO + 5;
 
 // The names lines one after the other, each with its line feed.
-pub const NAMES_BYTES: usize = 182;
+pub const NAMES_BYTES: usize = 209;
 
 const NAMES: [u8; NAMES_BYTES] =
     *b"rate channels buffer block blocks volume\nunit speed ticking\nparent volume\nvolume\ntrack send volume\n\
-       track first count from\nblock kind index volume clock when part millis easing power\n";
+       track first count from\nx y z\ntrack x y z near far\nblock kind index volume clock when part millis easing power\n";
 
 const RULES: [TableRule; TABLES] = [
     TableRule {
@@ -128,6 +138,18 @@ const RULES: [TableRule; TABLES] = [
     },
     TableRule {
         least: 0,
+        most: LISTENER_LINES,
+        fields: column::LISTENER_COLUMNS,
+        rule: LineRule::Plain,
+    },
+    TableRule {
+        least: 0,
+        most: PLACING_LINES,
+        fields: column::PLACING_COLUMNS,
+        rule: LineRule::Apart,
+    },
+    TableRule {
+        least: 0,
         most: ORDER_LINES,
         fields: column::ORDER_COLUMNS,
         rule: LineRule::Order,
@@ -140,6 +162,8 @@ pub const FIELD_COUNT: usize = column::HEAD_COLUMNS
     + column::SEND_COLUMNS
     + column::ROUTE_COLUMNS
     + column::SOUND_COLUMNS
+    + column::LISTENER_COLUMNS
+    + column::PLACING_COLUMNS
     + column::ORDER_COLUMNS;
 
 // The fields of all tables, one after the other.
@@ -169,6 +193,17 @@ const FIELDS: [Field; FIELD_COUNT] = [
     Field::Number(ZERO, ZERO + 2147483647),
     Field::Number(ZERO, ZERO + 2147483647),
     Field::Number(ZERO, ZERO + 1),
+    // x y z
+    Field::Number(ZERO - FARTHEST, ZERO + FARTHEST),
+    Field::Number(ZERO - FARTHEST, ZERO + FARTHEST),
+    Field::Number(ZERO - FARTHEST, ZERO + FARTHEST),
+    // track x y z near far
+    Field::Line(TRACKS, ZERO + 1),
+    Field::Number(ZERO - FARTHEST, ZERO + FARTHEST),
+    Field::Number(ZERO - FARTHEST, ZERO + FARTHEST),
+    Field::Number(ZERO - FARTHEST, ZERO + FARTHEST),
+    Field::Number(ZERO, ZERO + FARTHEST),
+    Field::Number(ZERO, ZERO + FARTHEST),
     // block kind index volume clock when part millis easing power
     Field::Number(ZERO, ZERO + 1023),
     Field::Number(KIND_MAIN_VOLUME, KIND_RESUME),

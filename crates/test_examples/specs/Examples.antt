@@ -1,5 +1,5 @@
--- Worked examples, as rows of one list in the order in which the customer's paper has them: what the definitions give, and what the paper says. Rate 8192,
--- buffer 128, so that a chunk is 1/64 second. Chunks are counted from 1 in the comments, as in the paper, and from 0 in the definitions.
+-- Worked examples, as rows of one list in the order in which the customer's papers have them: what the definitions give, and what the papers say. Rate 8192,
+-- buffer 128, so that a chunk is 1/64 second. Chunks are counted from 1 in the comments, as in the papers, and from 0 in the definitions.
 use mathlib.Core.Path.{_≡_}
 use mathlib.Core.Bool.{Bool, true, cond, _&&_}
 use mathlib.Core.List.{List, [], _∷_, map}
@@ -30,8 +30,9 @@ use Rattle.playback.specs.declared.playback_state_manager.PlaybackState.{Playba
 use Rattle.playback.specs.declared.playback_state_manager.PlaybackState.the-variants.{Playing, Pausing, Paused, WaitingToResume, Resuming, Stopping, Stopped}
 use Rattle.playback.specs.declared.playback_state_manager.PlaybackStateManager.{PlaybackStateManager}
 use Rattle.playback.specs.PlaybackStateManager.{playbackNew, playbackPause, playbackResume, playbackUpdate}
+use Rattle.spatial.specs.Spatial.{attenuation}
 use Rattle.scene.specs.declared.scene.Scene.{Scene}
-use Rattle.scene.specs.Scene.{sceneOf}
+use Rattle.scene.specs.Scene.{listenerOf, positionOf, distancesOf, sceneOf}
 use Rattle.frame.specs.declared.frame.Frame.{Frame}
 use Rattle.frame.specs.Frame.{clamped}
 use Rattle.chunk.specs.declared.chunk.Chunk.{Chunk}
@@ -39,7 +40,7 @@ use Rattle.track.specs.Mix.{mixedFrame}
 use Rattle.renderer.specs.Renderer.{mixerAt, chunkIn, channelsOf}
 use Rattle.scene_tables.specs.Tables.{raised}
 
--- a number, or the bits of a float: as the definitions give it, and as the paper says it
+-- a number, or the bits of a float: as the definitions give it, and as the papers say it
 pub record Row : Type 0 where
   pub given : ℕ
   pub said : ℕ
@@ -114,9 +115,29 @@ abbrev pub row : List ℕ → List ℕ
 row = map raised
 
 -- one track with two sounds, of 1,536 and of 300 frames, all 0.5, in blocks of one chunk each
+abbrev pub withTables : List (List ℕ) → List (List ℕ) → List (List ℕ) → Scene
+withTables listeners placings orders =
+    sceneOf ((row (8192 ∷ 2 ∷ 128 ∷ 128 ∷ 10 ∷ 0 ∷ []) ∷ []) ∷ [] ∷ (row (0 ∷ 0 ∷ []) ∷ []) ∷ [] ∷ [] ∷ (row (1 ∷ 0 ∷ 1536 ∷ 0 ∷ []) ∷ row (1 ∷ 100 ∷ 300 ∷ 0 ∷ []) ∷ []) ∷ listeners ∷ placings ∷ orders ∷ [])
+
 abbrev pub withOrders : List (List ℕ) → Scene
-withOrders orders =
-    sceneOf ((row (8192 ∷ 2 ∷ 128 ∷ 128 ∷ 10 ∷ 0 ∷ []) ∷ []) ∷ [] ∷ (row (0 ∷ 0 ∷ []) ∷ []) ∷ [] ∷ [] ∷ (row (1 ∷ 0 ∷ 1536 ∷ 0 ∷ []) ∷ row (1 ∷ 100 ∷ 300 ∷ 0 ∷ []) ∷ []) ∷ orders ∷ [])
+withOrders = withTables [] []
+
+-- the track 5 metres from the room's middle, and a listener there
+abbrev pub fiveAway : ℕ → ℕ → List ℕ
+fiveAway near far = row (1 ∷ 3000 ∷ 4000 ∷ 0 ∷ near ∷ far ∷ [])
+
+abbrev pub middle : List ℕ
+middle = row (0 ∷ 0 ∷ 0 ∷ [])
+
+abbrev pub levelBits : List ℕ → ℕ
+levelBits line = toBits binary32 (attenuation (listenerOf middle) (positionOf line) (distancesOf line) .0)
+
+abbrev pub heardScene : List ℕ → Scene
+heardScene line = withTables (middle ∷ []) (line ∷ []) []
+
+-- nobody listens
+abbrev pub unheardScene : Scene
+unheardScene = withTables [] (fiveAway 0 10000 ∷ []) []
 
 -- a linear pause over 125 ms
 abbrev pub pausedScene : Scene
@@ -206,4 +227,15 @@ rows =
     ∷ record { given = channelBits 3 0; said = 0x3f80_0000 }
     ∷ record { given = channelBits 3 1; said = 0 }
     ∷ record { given = channelBits 3 2; said = 0 }
+    -- a placed track as near to the listener as `near` is at 0 dB, and no frame of chunk 1 is zero
+    ∷ record { given = levelBits (fiveAway 5000 9000); said = 0 }
+    ∷ record { given = zeroFrames (heardScene (fiveAway 5000 9000)) 0; said = 0 }
+    -- halfway from `near` to `far` it is at -30 dB
+    ∷ record { given = levelBits (fiveAway 0 10000); said = 0xc1f0_0000 }
+    -- as far as `far` it is at -60 dB, and all of the chunk's 128 frames are zero
+    ∷ record { given = levelBits (fiveAway 1000 5000); said = 0xc270_0000 }
+    ∷ record { given = zeroFrames (heardScene (fiveAway 1000 5000)) 0; said = 128 }
+    -- without a listener they are too, and the sounds are used up
+    ∷ record { given = zeroFrames unheardScene 0; said = 128 }
+    ∷ record { given = playedBefore unheardScene 1 0; said = 128 }
     ∷ []

@@ -7,27 +7,27 @@ use Rattle.recordings.specs.Recordings.{Recordings}
 use Rattle.laws.specs.Loop.{upto, downto}
 use Rattle.frame.specs.declared.frame.Frame.{Frame}
 use Rattle.chunk.specs.declared.chunk.Chunk.{Chunk}
-use Rattle.chunk.specs.declared.chunk.ChunkTrack.{ChunkTrack}
 use Rattle.frame.specs.Frame.{zeroFrame, added, scaled}
 use Rattle.chunk.specs.Chunk.{amountAt, trackAmplitude, trackRow, routeRow}
 use Rattle.track.specs.Sound.{withSounds}
+unfoldable pub use Rattle.track_volume.specs.TrackVolume.{placed, trackPlaced, trackScaled, trackPlacedScaled}
 
 -- Each track right below `line`, latest line first: its step is taken on the value so far. Track j, counted from 0, is line j + 1.
 unfoldable pub overSubTracks : Chunk → ℕ → (ℕ → Frame → Frame) → Frame → Frame
 overSubTracks c line step a = downto (λ j x. cond (eqb (trackRow c j .parent) line) (step (suc j) x) x) (c .«track_count») a
 
--- Frame i of track `line` before its volume: the tracks below it, `under` being their frames, then its sounds.
+-- Frame i of track `line` before its placing: the tracks below it, `under` being their frames, then its sounds.
 unfoldable pub sumOver : (ℕ → Frame) → Chunk → Recordings → ℕ → ℕ → Frame
 sumOver under c samples line i = withSounds c samples line i (overSubTracks c line (λ below x. added x (under below)) zeroFrame)
 
--- Frame i of track `line`, with d levels of tracks left: its sum, then volume times fade.
+-- Frame i of track `line`, with d levels of tracks left: its sum, its placing, then volume times fade.
 -- A track that does not advance gives zeros, and those below it are not asked.
 unfoldable pub trackFrame : ℕ → Chunk → Recordings → ℕ → ℕ → Frame
 trackFrame zero c samples line i = zeroFrame
 trackFrame (suc d) c samples line i =
     let track = trackRow c (line - 1) in
     cond (track .advancing)
-    (scaled (sumOver (λ below. trackFrame d c samples below i) c samples line i) (trackAmplitude track (amountAt i (c .frames))))
+    (scaled (placed (track .placing) (sumOver (λ below. trackFrame d c samples below i) c samples line i)) (trackAmplitude track (amountAt i (c .frames))))
     zeroFrame
 
 -- its sum, with d levels of tracks below it
@@ -53,13 +53,9 @@ withSubSends d c samples line s i a = overSubTracks c line (λ below x. withTrac
 
 -- ---- the same as steps on the frames of a buffer
 
--- its frames before its volume
+-- its frames before its placing and its volume
 unfoldable pub sumSet : ℕ → Chunk → Recordings → ℕ → ℕ → Frame → Frame
 sumSet d c samples line i a = trackSum d c samples line i
-
--- volume times fade
-unfoldable pub trackScaled : ChunkTrack → ℕ → ℕ → Frame → Frame
-trackScaled track n i a = scaled a (trackAmplitude track (amountAt i n))
 
 -- the routes of a track whose scaled frames are given
 unfoldable pub withRoutesFrom : Chunk → ℕ → (ℕ → Frame) → ℕ → ℕ → Frame → Frame

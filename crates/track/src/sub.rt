@@ -1,117 +1,38 @@
 // kira's track/sub.rs: a track's frames, and what it and the tracks below it add to the send tracks.
 ghost use mathlib.Core.Path.{_≡_};
-ghost use mathlib.Core.Bool.{true};
 ghost use Prim.Native.Nat.{_*_, _≤_};
 ghost use lib.ListN.{length};
 ghost use Rattle.recordings.specs.Recordings.{recordings};
 ghost use Rattle.gain_table.specs.GainTable.{IsGainTable};
-ghost use Rattle.limits.specs.Limits.{chunkFramesMost};
 ghost use Rattle.frame.specs.Frame.{addedFrom};
 ghost use Rattle.frame.specs.Layout.{scratch, frameAt, withFrames};
-ghost use Rattle.chunk.specs.Chunk.{ChunkOk, isSteady, partsOf, LevelInRange};
+ghost use Rattle.chunk.specs.Chunk.{ChunkOk, partsOf};
 ghost use Rattle.chunk.specs.Flat.{chunkFrom};
 ghost use Rattle.track.specs.Owners.{subTrackLinks, soundLinks};
 ghost use Rattle.frame.specs.Running.{AllRunning, AllZero};
-ghost use Rattle.track.specs.Sub.{trackFrame, trackScaled, withTrackSends, withSubSends, sumSet, withRoutesFrom};
+ghost use Rattle.track.specs.Sub.{trackFrame, withTrackSends, withSubSends, sumSet, withRoutesFrom};
 ghost use Rattle.track.specs.Send.{sendPlaces, onSends};
 use crate::send::SEND_PART;
 use crate::sounds::add_sounds;
 use chunk::Amplitudes;
-use chunk::ChunkTrack;
 use chunk::FRAMES;
 use chunk::Levels;
 use chunk::Places;
 use chunk::ROUTE_COUNT;
 use chunk::route_at;
 use chunk::track_at;
-use decibels::Amplitude;
 use frame::add_frames;
 use frame::add_scaled;
-use frame::frame_at;
-use frame::put_frame;
-use frame::scale;
 use gain_table::GainTable;
 use level_amplitudes::Parts;
 use limits::CHUNK_FRAMES;
 use links::Links;
 use links::last_line;
 use links::line_before;
+use track_volume::apply_placing_and_volume;
 
 // What a chunk's frames are mixed in.
 pub const SCRATCH: usize = 2 * CHUNK_FRAMES;
-
-// `apply_volume` for a fade that stands still.
-fn apply_moving_volume(
-    out: &mut [f32],
-    track: ChunkTrack,
-    frames: usize,
-    parts: &Parts,
-    table: &GainTable,
-)
-    requires { ⌜ IsGainTable (now table) ⌝ }
-    requires { ⌜ (frames ≤ chunkFramesMost) × (2 * frames ≤ length (now out)) ⌝ }
-    requires { ⌜ LevelInRange (track .volume) × LevelInRange (track .fade) ⌝ }
-    requires { ⌜ now parts ≡ partsOf frames ⌝ }
-    requires { ⌜ isSteady (track .fade) ≡ true ⌝ }
-    ensures { λ _. ⌜ now (out .exit) ≡ withFrames (scratch 0 frames) (trackScaled track frames) (now (out .entry)) ⌝ }
-{
-    let volume = track.volume;
-    let fade = track.fade;
-    let by = fade.steady_amplitude(table);
-    let mut factors = [0.0f32; CHUNK_FRAMES];
-    volume.amplitudes(frames, parts, table, &mut factors);
-    let mut i = 0;
-    while i < frames {
-        let frame = frame_at(out, 0, frames, i).scaled(Amplitude(factors[i] * by.0));
-        put_frame(out, 0, frames, i, frame);
-        i += 1;
-    }
-}
-
-// `apply_volume` where both may move.
-fn apply_moving(out: &mut [f32], track: ChunkTrack, frames: usize, parts: &Parts, table: &GainTable)
-    requires { ⌜ IsGainTable (now table) ⌝ }
-    requires { ⌜ (frames ≤ chunkFramesMost) × (2 * frames ≤ length (now out)) ⌝ }
-    requires { ⌜ LevelInRange (track .volume) × LevelInRange (track .fade) ⌝ }
-    requires { ⌜ now parts ≡ partsOf frames ⌝ }
-    ensures { λ _. ⌜ now (out .exit) ≡ withFrames (scratch 0 frames) (trackScaled track frames) (now (out .entry)) ⌝ }
-{
-    let volume = track.volume;
-    let fade = track.fade;
-    let mut volumes = [0.0f32; CHUNK_FRAMES];
-    let mut fades = [0.0f32; CHUNK_FRAMES];
-    volume.amplitudes(frames, parts, table, &mut volumes);
-    fade.amplitudes(frames, parts, table, &mut fades);
-    let mut i = 0;
-    while i < frames {
-        let frame = frame_at(out, 0, frames, i).scaled(Amplitude(volumes[i] * fades[i]));
-        put_frame(out, 0, frames, i, frame);
-        i += 1;
-    }
-}
-
-// Volume times fade scales each frame.
-fn apply_volume(out: &mut [f32], track: ChunkTrack, frames: usize, parts: &Parts, table: &GainTable)
-    requires { ⌜ IsGainTable (now table) ⌝ }
-    requires { ⌜ (frames ≤ chunkFramesMost) × (2 * frames ≤ length (now out)) ⌝ }
-    requires { ⌜ LevelInRange (track .volume) × LevelInRange (track .fade) ⌝ }
-    requires { ⌜ now parts ≡ partsOf frames ⌝ }
-    ensures { λ _. ⌜ now (out .exit) ≡ withFrames (scratch 0 frames) (trackScaled track frames) (now (out .entry)) ⌝ }
-{
-    let volume = track.volume;
-    let fade = track.fade;
-    if fade.is_steady() {
-        if volume.is_steady() {
-            let a = volume.steady_amplitude(table);
-            let b = fade.steady_amplitude(table);
-            scale(out, frames, Amplitude(a.0 * b.0));
-            return;
-        }
-        apply_moving_volume(out, track, frames, parts, table);
-        return;
-    }
-    apply_moving(out, track, frames, parts, table);
-}
 
 // Adds the scaled frames to the send tracks that the track is routed to.
 fn add_routes<'a>(
@@ -144,7 +65,7 @@ fn add_routes<'a>(
 }
 
 // Leaves in `out`, whose frames are zeros, the frames of track `line`, counted from 1, before its
-// volume, and adds to the send tracks what the tracks below it send. `depth` is how many levels of
+// placing, and adds to the send tracks what the tracks below it send. `depth` is how many levels of
 // tracks are left below it.
 fn gather<'a>(
     places: &Places,
@@ -267,7 +188,7 @@ pub fn process<'a>(
         &mut out,
         sends,
     );
-    apply_volume(&mut out, track, frames, parts, table);
+    apply_placing_and_volume(&mut out, track, frames, parts, table);
     add_routes(
         sends,
         &out,

@@ -23,6 +23,7 @@ use Rattle.accepted.specs.SceneOk.{RouteOk, OrderOk, SceneOk, SamplesOk}
 use Rattle.accepted.proofs.laws.Passed.{TablesPass, file-passes}
 use Rattle.accepted.proofs.laws.Line.{count-ok, FieldOk, LineOk, line-ok, filled-length, every-place}
 use Rattle.accepted.proofs.laws.Values.{natural-between, natural-line, natural-below, volume-target, speed-fits, start-there, index-ok, sample-within, sound-held}
+use Rattle.accepted.proofs.laws.Placed.{placings-length, placings-in}
 use Rattle.accepted.specs.Lines.{absentClockLine, absentTrackLine, absentSendLine, absentRouteLine, absentSoundLine, absentOrderLine}
 
 module _ (ts : Tables) (samples : Recordings) (output : ℕ) (passed : TablesPass ts samples output) where
@@ -109,6 +110,7 @@ module _ (ts : Tables) (samples : Recordings) (output : ℕ) (passed : TablesPas
         sendPlaces = filled-length sendLines sendOf (rowsAt ts sends) (most sends (lit< tt));
         routePlaces = filled-length routeLines routeOf (rowsAt ts routes) (most routes (lit< tt));
         soundPlaces = filled-length soundLines soundOf (rowsAt ts sounds) (most sounds (lit< tt));
+        placingPlaces = placings-length ts;
         orderPlaces = filled-length orderLines orderOf (rowsAt ts orders) (most orders (lit< tt));
         clocks = every-place clockLines clockOf (rowsAt ts clocks) absentClockLine (λ i c. T (fits binary64 (asTicksPerSecond (c .speed))) × T (allowedSpeed (c .speed))) clock-line;
         tracks = every-place trackLines trackOf (rowsAt ts tracks) absentTrackLine (λ j t. TargetRange (t .volume .0)) track-volume;
@@ -116,6 +118,7 @@ module _ (ts : Tables) (samples : Recordings) (output : ℕ) (passed : TablesPas
         sends = every-place sendLines sendOf (rowsAt ts sends) absentSendLine (λ j x. TargetRange (x .volume .0)) send-volume;
         routes = every-place routeLines routeOf (rowsAt ts routes) absentRouteLine (λ r x. RouteOk (sceneOf ts) x) route-line;
         sounds = every-place soundLines soundOf (rowsAt ts sounds) absentSoundLine (λ k x. x .track ≤ linesAt ts tracks) (λ k h. sound-line k h .0);
+        placings = λ t h. placings-in ts (passed .lines) (passed .ranges) (passed .references) t;
         orders = every-place orderLines orderOf (rowsAt ts orders) absentOrderLine (λ i o. OrderOk (sceneOf ts) o) order-line;
       }
 

@@ -12,10 +12,10 @@ use Rattle.clock.specs.ClockSpeed.{allowedSpeed}
 use Rattle.scene_tables.specs.declared.tables.Field.{Field}
 use Rattle.scene_tables.specs.declared.tables.Field.the-variants.{Number, Line, Earlier, Index}
 use Rattle.scene_tables.specs.declared.tables.LineRule.{LineRule}
-use Rattle.scene_tables.specs.declared.tables.LineRule.the-variants.{Plain, Speed, Order}
+use Rattle.scene_tables.specs.declared.tables.LineRule.the-variants.{Plain, Speed, Apart, Order}
 use Rattle.scene_tables.specs.Bytes.{every}
-use Rattle.scene_tables.specs.Tables.{tables, tableAt, noField, natural, raised, headColumn, clockColumn, orderColumn}
-use Rattle.scene_questions.specs.Questions.{Tables, rowsAt, linesAt, cell, field, headCell, linesOk, everyLine, inRange, speedOf, volumeFits, partFits, millisFit, powerFits, orderFits, lineInRange, rangesOk, namesLine, indexNamesLine, lineNamesLine, referencesOk}
+use Rattle.scene_tables.specs.Tables.{tables, tableAt, noField, natural, raised, headColumn, clockColumn, placingColumn, orderColumn}
+use Rattle.scene_questions.specs.Questions.{Tables, rowsAt, linesAt, cell, field, headCell, linesOk, everyLine, inRange, speedOf, volumeFits, partFits, millisFit, powerFits, orderFits, distancesApart, lineInRange, rangesOk, namesLine, indexNamesLine, lineNamesLine, referencesOk}
 use Rattle.scene.specs.Scene.{filled}
 use Rattle.scene_tables.proofs.laws.Every.{every-at}
 
@@ -61,12 +61,14 @@ field-ok lines Index own z e g = tt
 abbrev pub RuleOk : (ℕ → ℕ) → ℕ → LineRule → List ℕ → Type 0
 RuleOk lines blocks Plain row = Unit {0}
 RuleOk lines blocks Speed row = allowedSpeed (speedOf (field row (clockColumn .unit)) (field row (clockColumn .speed))) ≡ true
+RuleOk lines blocks Apart row = field row (placingColumn .near) < field row (placingColumn .far)
 RuleOk lines blocks Order row = (field row (orderColumn .block) < blocks) × (indexNamesLine lines (field row (orderColumn .kind)) (field row (orderColumn .index)) ≡ true)
 
 rule-ok : (lines : ℕ → ℕ) (blocks : ℕ) (r : LineRule) (row : List ℕ) → lineInRange blocks r row ≡ true → lineNamesLine lines r row ≡ true → RuleOk lines blocks r row
-unfolding lineInRange lineNamesLine orderFits
+unfolding lineInRange lineNamesLine orderFits distancesApart
 rule-ok lines blocks Plain row e g = tt
 rule-ok lines blocks Speed row e g = e
+rule-ok lines blocks Apart row e g = ltb-true (field row (placingColumn .near)) (field row (placingColumn .far)) e
 rule-ok lines blocks Order row e g =
     let block = ltb (field row (orderColumn .block)) blocks in
     let volume = block && volumeFits (field row (orderColumn .kind)) (field row (orderColumn .volume)) in

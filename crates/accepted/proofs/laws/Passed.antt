@@ -5,9 +5,9 @@ use mathlib.Core.List.{List, [], _∷_, _++_}
 use Prim.Native.Nat.{ℕ}
 use lib.Dec.{eqb}
 use Rattle.recordings.specs.Recordings.{Recordings, fromHouse, fromVisitor}
-use Rattle.scene_tables.specs.Tables.{tracks, routes, sounds}
+use Rattle.scene_tables.specs.Tables.{tracks, routes, sounds, placings}
 use Rattle.scene_file.specs.Grammar.{tablesOf}
-use Rattle.scene_questions.specs.Questions.{Tables, rowsAt, sizeOk, spelledOk, linesOk, rangesOk, referencesOk, depthsFit, routesFit, soundsFit, samplesOk, outputLength, firstNo, tableQuestions, inputQuestions, answer}
+use Rattle.scene_questions.specs.Questions.{Tables, rowsAt, sizeOk, spelledOk, linesOk, rangesOk, referencesOk, depthsFit, routesFit, placingsFit, soundsFit, samplesOk, outputLength, firstNo, tableQuestions, inputQuestions, answer}
 use Rattle.scene_questions.specs.Places.{questionAt}
 use Rattle.scene_questions.proofs.laws.FirstNo.{numbered, yes-at}
 
@@ -18,6 +18,7 @@ pub record TablesPass (ts : Tables) (samples : Recordings) (output : ℕ) : Type
   pub references : referencesOk ts ≡ true
   pub depths : depthsFit (rowsAt ts tracks) ≡ true
   pub routes : routesFit (rowsAt ts routes) ≡ true
+  pub placings : placingsFit (rowsAt ts placings) ≡ true
   pub houseSounds : soundsFit (rowsAt ts sounds) fromHouse (samples .house) ≡ true
   pub visitorSounds : soundsFit (rowsAt ts sounds) fromVisitor (samples .visitor) ≡ true
   pub houseInside : samplesOk (samples .house) ≡ true
@@ -42,11 +43,12 @@ tables-pass ts samples output e =
       references = yes 2;
       depths = yes 3;
       routes = yes 4;
-      houseSounds = yes 5;
-      visitorSounds = yes 6;
-      houseInside = yes 7;
-      visitorInside = yes 8;
-      long = yes 9;
+      placings = yes 5;
+      houseSounds = yes 6;
+      visitorSounds = yes 7;
+      houseInside = yes 8;
+      visitorInside = yes 9;
+      long = yes 10;
     }
 
 pub file-passes : (file : List ℕ) (samples : Recordings) (output : ℕ) → answer file samples output ≡ 0 → FilePasses file samples output

@@ -1,11 +1,11 @@
 -- From the numbers of a line to the values of the scene. A number z of the file stands for z - 2^31. Assumes nothing.
 use mathlib.Core.Path.{_≡_, refl}
 use mathlib.Core.Bool.{Bool, true, false, cond, _&&_, true≢false}
-use Prim.Native.Nat.{ℕ, suc, _-_, _*_, _/_, _≤_, _<_}
+use Prim.Native.Nat.{ℕ, _*_, _/_, _≤_, _<_}
 use native.Mathlib.Omega.{arith}
-use borrow.Author.Tests.{leb-true, leb-false, eqb-true, eqb-false, eq-eqb, ne-eqb}
+use borrow.Author.Tests.{leb-true, eqb-true, eqb-false, eq-eqb, ne-eqb}
 use lib.Dec.{T, eqb, leb, lit<}
-use lib.IntN.{pos, negsuc}
+use lib.IntN.{pos}
 use lib.ListN.{length}
 use lib.Ieee.{Float, binary32, binary64, fits, ofInt, div, neg, le}
 use lib.Ieee.Fits.{div-fits}
@@ -14,7 +14,8 @@ use Rattle.laws.proofs.laws.Choice.{true-T, and-left, and-right}
 use Rattle.laws.specs.FloatBounds.{Within}
 use Rattle.laws.proofs.laws.FloatBounds.{holds-small, holds-value, within-of-tests}
 use Rattle.laws.specs.DecibelRange.{TargetRange}
-use Rattle.laws.proofs.laws.DecibelRange.{thousandths-target}
+use Rattle.laws.specs.Interpolate.{InRange}
+use Rattle.spatial.proofs.laws.Thousandths.{thousandths-in}
 use Rattle.clock.specs.declared.clock_speed.ClockSpeed.the-variants.{SecondsPerTick, TicksPerSecond, TicksPerMinute}
 use Rattle.clock.specs.ClockSpeed.{asTicksPerSecond}
 use Rattle.tween.specs.declared.start_time.StartTime.the-variants.{Immediate, Delayed, ClockTime}
@@ -22,7 +23,7 @@ use Rattle.tween.specs.StartTime.{ClockThere}
 use Rattle.scene_tables.specs.Tables.{natural, tracks, sends, routes, raised, raisedMinus, orderKind}
 use Rattle.scene.specs.declared.scene.OrderKind.the-variants.{MainVolume, TrackVolume, SendVolume, RouteVolume, Pause, Resume}
 use Rattle.scene_questions.specs.Questions.{Tables, linesAt, speedOf, indexTable, indexNamesLine, sampleOk}
-use Rattle.scene.specs.Scene.{volumeOf, kindOf, clockTimeOf, startTimeOf, sceneOf}
+use Rattle.scene.specs.Scene.{thousandths, volumeOf, kindOf, clockTimeOf, startTimeOf, sceneOf}
 use Rattle.accepted.specs.SceneOk.{IndexOk}
 use Rattle.accepted.proofs.laws.Line.{both-le}
 
@@ -37,15 +38,17 @@ natural-line a lines z h = (omega arith, h .1)
 pub natural-below : (z w : ℕ) → raised 0 ≤ z → z < w → natural z < natural w
 natural-below z w h k = omega arith
 
--- ---- volumes
+-- ---- thousandths
 
 pub volume-target : (z : ℕ) → (raisedMinus 96000 ≤ z) × (z ≤ raised 18000) → TargetRange (volumeOf z .0)
-unfolding volumeOf ofInt
-volume-target z h = go (leb 2147483648 z) refl
-  where
-    go : (b : Bool) → leb 2147483648 z ≡ b → TargetRange (div binary32 (ofInt binary32 (cond b (pos (z - 2147483648)) (negsuc (2147483648 - suc z)))) (ofInt binary32 (pos 1000)))
-    go true e = let k : 2147483648 ≤ z = leb-true 2147483648 z e in thousandths-target false (z - 2147483648) (omega arith)
-    go false e = let k : z < 2147483648 = leb-false 2147483648 z e in thousandths-target true (suc (2147483648 - suc z)) (omega arith)
+unfolding volumeOf
+volume-target z h = thousandths-in z 96 18 (lit< tt) (lit< tt) (omega arith) (h .1)
+
+pub coordinate-in : (z : ℕ) → (raisedMinus 1000000 ≤ z) × (z ≤ raised 1000000) → InRange binary32 1000 1000 (thousandths z)
+coordinate-in z h = thousandths-in z 1000 1000 (lit< tt) (lit< tt) (omega arith) (h .1)
+
+pub distance-in : (z : ℕ) → (raised 0 ≤ z) × (z ≤ raised 1000000) → InRange binary32 0 1000 (thousandths z)
+distance-in z h = thousandths-in z 0 1000 (lit< tt) (lit< tt) (omega arith) (h .1)
 
 -- ---- clocks
 

@@ -13,16 +13,18 @@ use lib.Ieee.{Float, nan}
 use Rattle.limits.specs.Limits.{trackPlaces, sendLines, routeLines, soundLines}
 use Rattle.laws.specs.Pieces.{pieces}
 use Rattle.laws.proofs.laws.Pieces.{pieces-suc, length-pieces, length-elements}
+use Rattle.spatial.specs.declared.placing.Placing.{Placing}
+use Rattle.spatial.specs.declared.placing.Placing.the-variants.{Plain, Unheard, Spatial}
 use Rattle.chunk.specs.declared.chunk.Level.{Level}
 use Rattle.chunk.specs.declared.chunk.ChunkTrack.{ChunkTrack}
 use Rattle.chunk.specs.declared.chunk.ChunkRoute.{ChunkRoute}
 use Rattle.chunk.specs.declared.chunk.ChunkSound.{ChunkSound}
 use Rattle.chunk.specs.declared.chunk.Chunk.{Chunk}
 use Rattle.chunk.specs.Chunk.{ChunkPlaces, absentLevel, absentTrackRow, absentRouteRow, absentSoundRow, trackRow, routeRow, soundRow, sendRow}
-use Rattle.chunk.specs.Flat.{advancingFrom, routeTracksFrom, routeSendsFrom, soundTracksFrom, soundFromsFrom, soundStartsFrom, soundLeftsFrom}
+use Rattle.chunk.specs.Flat.{advancingFrom, placingsFrom, routeTracksFrom, routeSendsFrom, soundTracksFrom, soundFromsFrom, soundStartsFrom, soundLeftsFrom}
 use Rattle.chunk.specs.Flat.{framesPlace, trackCountPlace, sendCountPlace, routeCountPlace, soundCountPlace, placesSize}
-use Rattle.chunk.specs.Flat.{levelSize, trackLevels, sendLevelsFrom, mainFrom, levelsSize}
-use Rattle.chunk.specs.Flat.{column, levelFrom, trackFrom, sendFrom, routeFrom, soundFrom, chunkFrom, flag, soundPlaces, placesOf, levelValues, levelsOf, amplitudesOf}
+use Rattle.chunk.specs.Flat.{levelSize, placingOffset, trackLevels, sendLevelsFrom, mainFrom, levelsSize}
+use Rattle.chunk.specs.Flat.{column, levelFrom, placingFrom, trackFrom, sendFrom, routeFrom, soundFrom, chunkFrom, flag, placingKind, placingLevel, soundPlaces, placesOf, levelValues, trackValues, levelsOf, amplitudesOf}
 
 -- ---- elements of pieces and columns
 
@@ -74,13 +76,15 @@ module _ (places : List ℕ) (levels amplitudes : List Float) where
   pub sound-from : (k : ℕ) → k < soundLines → soundRow (chunkFrom places levels amplitudes) k ≡ soundFrom places k
   sound-from k h = column-at (soundFrom places) soundLines k absentSoundRow h
 
-trackWith : ℕ → Bool → Level → Level → ChunkTrack
-trackWith parent advancing volume fade = record { parent = parent; advancing = advancing; volume = volume; fade = fade }
+trackWith : ℕ → Bool → Placing → Level → Level → ChunkTrack
+trackWith parent advancing placing volume fade = record { parent = parent; advancing = advancing; placing = placing; volume = volume; fade = fade }
 
--- a track's line by its two levels
-pub track-read : (places : List ℕ) (levels amplitudes : List Float) (j : ℕ) (a b : Level) → j < trackPlaces → a ≡ levelFrom levels (trackLevels * j) → b ≡ levelFrom levels (trackLevels * j + levelSize) → record { parent = getD places j 0; advancing = eqb (getD places (advancingFrom + j) 0) 1; volume = a; fade = b } ≡ trackRow (chunkFrom places levels amplitudes) j
+-- a track's line by its placing and its two levels
+pub track-read : (places : List ℕ) (levels amplitudes : List Float) (j : ℕ) (r : Placing) (a b : Level) → j < trackPlaces → r ≡ placingFrom (getD places (placingsFrom + j) 0) (getD levels (trackLevels * j + placingOffset) nan) → a ≡ levelFrom levels (trackLevels * j) → b ≡ levelFrom levels (trackLevels * j + levelSize) → record { parent = getD places j 0; advancing = eqb (getD places (advancingFrom + j) 0) 1; placing = r; volume = a; fade = b } ≡ trackRow (chunkFrom places levels amplitudes) j
 unfolding trackFrom trackWith
-track-read places levels amplitudes j a b h p q = ap₂ (trackWith (getD places j 0) (eqb (getD places (advancingFrom + j) 0) 1)) p q ∙ sym (track-from places levels amplitudes j h)
+track-read places levels amplitudes j r a b h o p q =
+    let at : Placing → Level → Level → ChunkTrack = trackWith (getD places j 0) (eqb (getD places (advancingFrom + j) 0) 1) in
+    ap (λ (x : Placing). at x a b) o ∙ ap₂ (at (placingFrom (getD places (placingsFrom + j) 0) (getD levels (trackLevels * j + placingOffset) nan))) p q ∙ sym (track-from places levels amplitudes j h)
 
 pub send-read : (places : List ℕ) (levels amplitudes : List Float) (s : ℕ) {a : Level} → s < sendLines → a ≡ levelFrom levels (sendLevelsFrom + levelSize * s) → a ≡ sendRow (chunkFrom places levels amplitudes) s
 unfolding sendFrom
@@ -117,9 +121,17 @@ module _ (c : Chunk) where
   unfolding placesOf
   place-advancing j h = column-past _ trackPlaces _ j 0 ∙ column-here _ trackPlaces _ j 0 h
 
+  pub place-placing : (j : ℕ) → j < trackPlaces → getD (placesOf c) (placingsFrom + j) 0 ≡ placingKind (trackRow c j .placing)
+  unfolding placesOf
+  place-placing j h = place (placingsFrom + j) (trackPlaces + (trackPlaces + j)) (omega arith) ∙ column-past _ trackPlaces _ (trackPlaces + j) 0 ∙ column-past _ trackPlaces _ j 0 ∙ column-here _ trackPlaces _ j 0 h
+
   past-tracks : (k : ℕ) → getD (placesOf c) (routeTracksFrom + k) 0 ≡ getD (column (λ r. routeRow c r .track) routeLines ++ (column (λ r. routeRow c r .send) routeLines ++ soundPlaces c)) k 0
   unfolding placesOf soundPlaces
-  past-tracks k = place (routeTracksFrom + k) (trackPlaces + (trackPlaces + k)) (omega arith) ∙ column-past _ trackPlaces _ (trackPlaces + k) 0 ∙ column-past _ trackPlaces _ k 0
+  past-tracks k =
+      place (routeTracksFrom + k) (trackPlaces + (trackPlaces + (trackPlaces + k))) (omega arith)
+      ∙ column-past _ trackPlaces _ (trackPlaces + (trackPlaces + k)) 0
+      ∙ column-past _ trackPlaces _ (trackPlaces + k) 0
+      ∙ column-past _ trackPlaces _ k 0
 
   pub place-route-track : (r : ℕ) → r < routeLines → getD (placesOf c) (routeTracksFrom + r) 0 ≡ routeRow c r .track
   place-route-track r h = past-tracks r ∙ column-here _ routeLines _ r 0 h
@@ -172,7 +184,7 @@ module _ (c : Chunk) where
       ∙ column-past _ soundLines _ (soundLines + k) 0
       ∙ column-past _ soundLines _ k 0
 
-  pub level-track : (j k i : ℕ) → j < trackPlaces → k < trackLevels → i ≡ trackLevels * j + k → getD (levelsOf c) i nan ≡ getD (levelValues (trackRow c j .volume) ++ levelValues (trackRow c j .fade)) k nan
+  pub level-track : (j k i : ℕ) → j < trackPlaces → k < trackLevels → i ≡ trackLevels * j + k → getD (levelsOf c) i nan ≡ getD (trackValues (trackRow c j)) k nan
   unfolding levelsOf
   level-track j k i h b e = value i (j * trackLevels + k) (omega arith) ∙ pieces-here _ trackLevels trackPlaces (λ i. refl) _ nan j k h b
 
@@ -198,7 +210,7 @@ module _ (c : Chunk) where
   pub levels-length : length (levelsOf c) ≡ levelsSize
   unfolding levelsOf
   levels-length =
-      let tracks = length-pieces (λ j. levelValues (trackRow c j .volume) ++ levelValues (trackRow c j .fade)) trackLevels trackPlaces (λ i h. refl) in
+      let tracks = length-pieces (λ j. trackValues (trackRow c j)) trackLevels trackPlaces (λ i h. refl) in
       let sends = length-pieces (λ s. levelValues (sendRow c s)) levelSize sendLines (λ i h. refl) in
       simp (length-append, tracks, sends)
 
@@ -216,6 +228,12 @@ flag-is : (b : Bool) → eqb (flag b) 1 ≡ b
 unfolding flag
 flag-is true = refl
 flag-is false = refl
+
+placing-is : (p : Placing) → placingFrom (placingKind p) (placingLevel p) ≡ p
+unfolding placingFrom placingKind placingLevel
+placing-is Plain = refl
+placing-is Unheard = refl
+placing-is (Spatial level) = refl
 
 column-is : {A : Type 0} (f : ℕ → A) (n : ℕ) (l : List A) (d : A) → length l ≡ n → ((k : ℕ) → k < n → f k ≡ getD l k d) → column f n ≡ l
 column-is f n l d e h =
@@ -244,8 +262,12 @@ module _ (c : Chunk) where
       let t : ChunkTrack = trackRow c j in
       let volume : levelFrom (levelsOf c) (trackLevels * j) ≡ t .volume = level-is (levelsOf c) (trackLevels * j) (t .volume) (level-track c j 0 (trackLevels * j) h (omega arith) (omega arith)) (level-track c j 1 (trackLevels * j + 1) h (omega arith) (omega arith)) in
       let fade : levelFrom (levelsOf c) (trackLevels * j + levelSize) ≡ t .fade = level-is (levelsOf c) (trackLevels * j + levelSize) (t .fade) (level-track c j 2 (trackLevels * j + levelSize) h (omega arith) (omega arith)) (level-track c j 3 (trackLevels * j + levelSize + 1) h (omega arith) (omega arith)) in
-      ap₂ (λ (p : ℕ) (b : Bool). trackWith p b (levelFrom (levelsOf c) (trackLevels * j)) (levelFrom (levelsOf c) (trackLevels * j + levelSize))) (place-parent c j h) (ap (λ (n : ℕ). eqb n 1) (place-advancing c j h) ∙ flag-is (t .advancing))
-      ∙ ap₂ (trackWith (t .parent) (t .advancing)) volume fade
+      let placing : placingFrom (getD (placesOf c) (placingsFrom + j) 0) (getD (levelsOf c) (trackLevels * j + placingOffset) nan) ≡ t .placing = ap₂ placingFrom (place-placing c j h) (level-track c j 4 (trackLevels * j + placingOffset) h (omega arith) (omega arith)) ∙ placing-is (t .placing) in
+      let advancing : eqb (getD (placesOf c) (advancingFrom + j) 0) 1 ≡ t .advancing = ap (λ (n : ℕ). eqb n 1) (place-advancing c j h) ∙ flag-is (t .advancing) in
+      let from : Placing = placingFrom (getD (placesOf c) (placingsFrom + j) 0) (getD (levelsOf c) (trackLevels * j + placingOffset) nan) in
+      ap₂ (λ (p : ℕ) (b : Bool). trackWith p b from (levelFrom (levelsOf c) (trackLevels * j)) (levelFrom (levelsOf c) (trackLevels * j + levelSize))) (place-parent c j h) advancing
+      ∙ ap (λ (p : Placing). trackWith (t .parent) (t .advancing) p (levelFrom (levelsOf c) (trackLevels * j)) (levelFrom (levelsOf c) (trackLevels * j + levelSize))) placing
+      ∙ ap₂ (trackWith (t .parent) (t .advancing) (t .placing)) volume fade
 
   send-flat : (s : ℕ) → s < sendLines → sendFrom (levelsOf c) s ≡ sendRow c s
   unfolding sendFrom

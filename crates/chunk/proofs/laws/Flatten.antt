@@ -18,7 +18,7 @@ next-stretch : {A : Type 0} {d : A} {t : List A} {n o′ n′ : ℕ} {l m r : Li
 next-stretch u v e = written-join (written-then u v) (written-after u v) e
 
 module _ (c : Chunk) where
-  pub places-done : {p q r s : List ℕ} → length p ≡ placesSize → Written 0 (placesOf c) 0 (2 * trackPlaces) p q → Written 0 (placesOf c) routeTracksFrom (2 * routeLines) q r → Written 0 (placesOf c) soundTracksFrom (4 * soundLines) r s → set (set (set (set (set s framesPlace (c .frames)) trackCountPlace (c .«track_count»)) sendCountPlace (c .«send_count»)) routeCountPlace (c .«route_count»)) soundCountPlace (c .«sound_count») ≡ placesOf c
+  pub places-done : {p q r s : List ℕ} → length p ≡ placesSize → Written 0 (placesOf c) 0 (3 * trackPlaces) p q → Written 0 (placesOf c) routeTracksFrom (2 * routeLines) q r → Written 0 (placesOf c) soundTracksFrom (4 * soundLines) r s → set (set (set (set (set s framesPlace (c .frames)) trackCountPlace (c .«track_count»)) sendCountPlace (c .«send_count»)) routeCountPlace (c .«route_count»)) soundCountPlace (c .«sound_count») ≡ placesOf c
   places-done h tracks routes sounds =
       let w = next-stretch (next-stretch tracks routes refl) sounds refl in
       let w0 = written-next framesPlace (c .frames) w refl (omega (arith, h)) (sym (place-count c 0 framesPlace refl)) in

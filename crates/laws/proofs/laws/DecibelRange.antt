@@ -146,9 +146,5 @@ module _ (f : Format) (n k p q : ℕ) (N : n < 2 ^ prec f) (K : k < 2 ^ prec f) 
       (bounded-above n p k (2 ^ low f) (minus f (integer f true n)) (plus f (integer f true p)) (plus f (integer f false k)) (plus f (integer f true n)) (minus f (integer f true p)) i (x .2) (l .1) (y .1) (l .2))
       (bounded-below n q k (2 ^ low f) (plus f (integer f true n)) (minus f (integer f true q)) (plus f (integer f false k)) (minus f (integer f true n)) (plus f (integer f true q)) h (x .2) (x .1) (y .1) (m .2))
 
-pub thousandths-target : (s : Bool) (n : ℕ) → n ≤ cond s 96000 18000 → TargetRange (div binary32 (integer binary32 s n) (integer binary32 false 1000))
-thousandths-target true n h = quotient-in-range binary32 n 1000 96 18 (lt-of-le-of-lt h (lit< tt)) (lit< tt) (lit< tt) (lit< tt) (lit< tt) true h
-thousandths-target false n h = quotient-in-range binary32 n 1000 96 18 (lt-of-le-of-lt h (lit< tt)) (lit< tt) (lit< tt) (lit< tt) (lit< tt) false h
-
 pub thousandths-silent : (n : ℕ) → 60000 ≤ n → n ≤ 96000 → SilentRange (div binary32 (integer binary32 true n) (integer binary32 false 1000))
 thousandths-silent n h k = quotient-below binary32 n 1000 96 60 (lt-of-le-of-lt k (lit< tt)) (lit< tt) (lit< tt) (lit< tt) (lit< tt) h k

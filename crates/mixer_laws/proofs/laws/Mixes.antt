@@ -10,8 +10,9 @@ use Rattle.parameter.specs.declared.parameter.Parameter.{Parameter}
 use Rattle.parameter.specs.Range.{ParameterIn, valueRange}
 use Rattle.parameter.proofs.laws.Parameter.{value-admitted}
 use Rattle.scene.specs.declared.scene.Scene.{Scene}
-use Rattle.accepted.specs.Lines.{soundLine, absentTrackLine, absentRouteLine}
+use Rattle.accepted.specs.Lines.{soundLine, placingAt, absentTrackLine, absentRouteLine}
 use Rattle.accepted.specs.SceneOk.{SceneOk, SamplesOk}
+use Rattle.spatial.specs.Spatial.{PlacingIn}
 use Rattle.chunk.specs.declared.chunk.ChunkTrack.{ChunkTrack}
 use Rattle.chunk.specs.Chunk.{LevelInRange, ChunkOk, absentLevel, absentTrackRow, absentRouteRow, absentSoundRow}
 use Rattle.mixer.specs.declared.mixer.Mixer.{Mixer}
@@ -43,16 +44,17 @@ level-ok : (p : Parameter) → ParameterIn valueRange p → LevelInRange (levelO
 unfolding levelOf
 level-ok p h = record { before = h .previous; now = h .value }
 
-record LevelsOk (t : ChunkTrack) : Type 0 where
+record TrackOk (t : ChunkTrack) : Type 0 where
   volume : LevelInRange (t .volume)
   fade : LevelInRange (t .fade)
+  placing : PlacingIn (t .placing)
 
 module _ (s : Scene) (c : ℕ) (m : Mixer) (ok : SceneOk s) (h : MixerOk s c m) where
-  tracks-ok : ArrayOk (λ t x. LevelsOk x) (s .«track_count») trackPlaces absentTrackRow (chunkTracks (s .tracks) (s .«track_count») (m .tracks))
+  tracks-ok : ArrayOk (λ t x. TrackOk x) (s .«track_count») trackPlaces absentTrackRow (chunkTracks (s .tracks) (s .placings) (s .«track_count») (m .tracks))
   unfolding chunkTracks chunkTrack
   tracks-ok =
-      changed-array (replicate trackPlaces emptyTrackRow) (λ t x. chunkTrack (getD (s .tracks) t absentTrackLine) (stateOf (m .tracks) t)) (ok .trackCount) (length-replicate trackPlaces emptyTrackRow)
-      (λ t b. record { volume = level-ok (stateOf (m .tracks) t .volume) (h .tracks t b .volume); fade = level-ok (stateOf (m .tracks) t .playback .«volume_fade») (h .tracks t b .playback .fade) })
+      changed-array (replicate trackPlaces emptyTrackRow) (λ t x. chunkTrack (getD (s .tracks) t absentTrackLine) (placingAt s t) (stateOf (m .tracks) t)) (ok .trackCount) (length-replicate trackPlaces emptyTrackRow)
+      (λ t b. record { volume = level-ok (stateOf (m .tracks) t .volume) (h .tracks t b .volume); fade = level-ok (stateOf (m .tracks) t .playback .«volume_fade») (h .tracks t b .playback .fade); placing = ok .placings t b })
 
   sends-ok : ArrayOk (λ i l. LevelInRange l) (s .«send_count») sendLines absentLevel (chunkSends (s .«send_count») (m .sends))
   unfolding chunkSends
@@ -82,6 +84,7 @@ chunk-ok s samples c n m ok there h few =
       sounds = ok .soundCount;
       volumes = λ t b. tracks-ok s c m ok h .each t b .volume;
       fades = λ t b. tracks-ok s c m ok h .each t b .fade;
+      placings = λ t b. tracks-ok s c m ok h .each t b .placing;
       sendLevels = sends-ok s c m ok h .each;
       mainLevel = level-ok (m .«main_volume») (h .main);
       routed = routes-ok s c m ok h .each;

@@ -8,7 +8,7 @@ use native.Mathlib.Nat.{lt-of-le-of-lt}
 use native.Mathlib.Numerals.{sub-one}
 use native.Mathlib.Omega.{arith}
 use lib.Dec.{T, T-not, eqb, eqb→eq, eqb-refl}
-use lib.ListN.{length, getD, set, length-set}
+use lib.ListN.{length, getD, set, replicate, length-set}
 use lib.Seq.{getD-set-same, getD-set-other}
 use Rattle.laws.specs.Loop.{changed}
 use Rattle.laws.proofs.laws.Loop.{changed-length, changed-below}
@@ -30,7 +30,7 @@ line-of p = sub-one (suc p)
 differ : (keep : ℕ → Bool) (j i : ℕ) → T (keep j) → T (not (keep i)) → j ≢ i
 differ keep j i t u e = T-not (keep i) u (subst (λ (k : ℕ). T (keep k)) e t)
 
-unequal : (j i : ℕ) → T (not (eqb j i)) → j ≢ i
+pub unequal : (j i : ℕ) → T (not (eqb j i)) → j ≢ i
 unequal j i u e = T-not (eqb j i) u (subst (λ (k : ℕ). T (eqb j k)) e (eqb-refl j))
 
 -- what holds of a line, and of a new value of it, holds of it once a line is set
@@ -41,12 +41,18 @@ set-holds P (y ∷ l) zero (suc j) x d p h = p
 set-holds P (y ∷ l) (suc i) zero x d p h = p
 set-holds P (y ∷ l) (suc i) (suc j) x d p h = set-holds P l i j x d p (λ e. h (ap suc e))
 
+-- an array of one value
+pub all-same : {A : Type 0} (n i : ℕ) (x : A) → getD (replicate n x) i x ≡ x
+all-same zero i x = refl
+all-same (suc n) zero x = refl
+all-same (suc n) (suc i) x = all-same n i x
+
 -- an array has room for a line, and for its rank
 module _ (n size : ℕ) (room : n ≤ size) (i : ℕ) (b : i < n) {len : ℕ} (places : len ≡ size) where
-  at-line : i < len
+  pub at-line : i < len
   at-line = omega arith
 
-  at-rank : (keep : ℕ → Bool) → rank keep i < len
+  pub at-rank : (keep : ℕ → Bool) → rank keep i < len
   at-rank keep = lt-of-le-of-lt (rank-le keep i) at-line
 
 module _ {A : Type 0} (keep : ℕ → Bool) (n size : ℕ) (d : A) (room : n ≤ size) where

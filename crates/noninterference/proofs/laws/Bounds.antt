@@ -1,9 +1,9 @@
--- The size of what is heard inside a track: at most 96 terms at each level, each scaled by at most 2 ^ 8, so a frame with d levels of tracks is within
--- 2 ^ (15 d), and every sum is finite. Assumes nothing.
+-- The size of what is heard inside a track: at most 96 terms at each level, each scaled by at most 2 ^ 8 and by a placing's factor, at most 1, so a frame
+-- with d levels of tracks is within 2 ^ (15 d), and every sum is finite. Assumes nothing.
 use mathlib.Core.Path.{_≡_, sym, subst}
 use mathlib.Core.Bool.{Bool, cond}
 use Prim.Native.Nat.{ℕ, zero, suc, _+_, _-_, _*_, _^_, _≤_, _<_}
-use native.Mathlib.Nat.{one-mul, mul-le-mul-right}
+use native.Mathlib.Nat.{one-mul, mul-le-mul-right, add-zero}
 use native.Mathlib.Omega.{arith}
 use lib.Dec.{eqb, lit<, lit≤}
 use lib.Pow.{pow-add, pow-pos}
@@ -22,6 +22,10 @@ use Rattle.laws.proofs.laws.DecibelRange.{SilentRange, silent-stays, silent-mos
 use Rattle.rounding.specs.Narrow.{narrowed}
 use Rattle.rounding.proofs.laws.Narrow.{narrowed-unit}
 use Rattle.tween.specs.Tweenable.{interpolated}
+use Rattle.spatial.specs.declared.placing.Placing.{Placing}
+use Rattle.spatial.specs.declared.placing.Placing.the-variants.{Plain, Unheard, Spatial}
+use Rattle.spatial.specs.Spatial.{factor, PlacingIn}
+use Rattle.spatial.proofs.laws.Spatial.{factor-within}
 use Rattle.frame.specs.declared.frame.Frame.{Frame}
 use Rattle.chunk.specs.declared.chunk.Level.{Level}
 use Rattle.chunk.specs.declared.chunk.Chunk.{Chunk}
@@ -30,7 +34,7 @@ use Rattle.frame.specs.Frame.{zeroFrame, added}
 use Rattle.chunk.specs.Chunk.{amountAt, levelAmplitude, trackAmplitude, LevelInRange, ChunkOk, trackRow, soundRow}
 use Rattle.chunk.proofs.laws.Chunk.{IsAmount, amount-is, level-admitted}
 use Rattle.track.specs.Sound.{soundFrame, addedSound, withSounds}
-use Rattle.track.specs.Sub.{overSubTracks, trackFrame, sumOver, trackSum}
+use Rattle.track.specs.Sub.{overSubTracks, placed, trackFrame, sumOver, trackSum}
 use Rattle.frame.specs.Running.{Both}
 use Rattle.track.proofs.laws.Running.{both-added, both-zero, picked-if}
 use Rattle.noninterference.proofs.laws.Frames.{Finite, both-map, both-scaled}
@@ -103,9 +107,19 @@ mul-pow : (a b : ℕ) {x y : Float} → a + b ≤ 127 → Within x (2 ^ a) 1 →
 mul-pow a b {x} {y} h v w =
     subst (λ (k : ℕ). Within (mul binary32 x y) k 1) (sym (pow-add 2 a b)) (mul-within {c = 1} {d = 1} (subst (λ (k : ℕ). Holds binary32 k 1) (pow-add 2 a b) (holds-pow binary32 (a + b) h)) v w)
 
+-- a placing leaves a bound as it is
+pub placed-within : (u : ℕ) → u ≤ 127 → (p : Placing) → PlacingIn p → {a : Frame} → Both (Size (2 ^ u)) a → Both (Size (2 ^ u)) (placed p a)
+unfolding placed
+placed-within u h Plain k b = b
+placed-within u h Unheard k b = both-zero (Size (2 ^ u)) (within-zero positive-zero)
+placed-within u h (Spatial level) k b =
+    let heard = factor (Spatial level) in
+    both-scaled (Size (2 ^ u)) (record { 0 = heard })
+    (λ x v. subst (λ (n : ℕ). Within (mul binary32 x heard) (2 ^ n) 1) (add-zero u) (mul-pow u 0 (omega arith) v (factor-within (Spatial level) k))) b
+
 module _ (c : Chunk) (samples : Recordings) (ok : ChunkOk c samples) (i : ℕ) (inside : i < c .frames)
     (heard : (k : ℕ) → k < c .«sound_count» → Both (Size 1) (soundFrame samples (soundRow c k) i)) where
-  -- a track's frame before its volume, where the tracks below are within 2 ^ u
+  -- a track's sum, before its placing, where the tracks below are within 2 ^ u
   sum-within : (d u line : ℕ) → u ≤ 121 → ((j : ℕ) → j < c .«track_count» → Both (Size (2 ^ u)) (trackFrame d c samples (suc j) i)) → Both (Size (2 ^ (7 + u))) (trackSum d c samples line i)
   unfolding sumOver withSounds addedSound overSubTracks
   sum-within d u line U h =
@@ -133,11 +147,11 @@ module _ (c : Chunk) (samples : Recordings) (ok : ChunkOk c samples) (i : ℕ) (
   track-within zero h j l = unfold trackFrame in both-zero (Size (2 ^ (15 * 0))) (within-zero positive-zero)
   track-within (suc d) h j l =
       subst (Both (Size (2 ^ (15 * suc d)))) (sym (track-parts d c samples j i))
-      (track-holds (Both (Size (2 ^ (15 * suc d)))) (trackRow c j) (c .frames) i (trackSum d c samples (suc j) i)
+      (track-holds (Both (Size (2 ^ (15 * suc d)))) (trackRow c j) (c .frames) i (placed (trackRow c j .placing) (trackSum d c samples (suc j) i))
       (both-scaled (Size (2 ^ (15 * suc d))) (trackAmplitude (trackRow c j) (amountAt i (c .frames)))
       (λ x v. subst (λ (k : ℕ). Within (mul binary32 x (trackAmplitude (trackRow c j) (amountAt i (c .frames)) .0)) (2 ^ k) 1) (deeper d)
       (mul-pow (7 + 15 * d) 8 (room d h) v (track-amplitude-within (trackRow c j) (amountAt i (c .frames)) (ok .volumes j l) (ok .fades j l) amount)))
-      (sum-within d (15 * d) (suc j) (low d h) (track-within d (omega arith))))
+      (placed-within (7 + 15 * d) (short d h) (trackRow c j .placing) (ok .placings j l) (sum-within d (15 * d) (suc j) (low d h) (track-within d (omega arith)))))
       (both-zero (Size (2 ^ (15 * suc d))) (within-zero positive-zero)))
     where
       deeper : (d : ℕ) → 7 + 15 * d + 8 ≡ 15 * suc d
@@ -146,10 +160,14 @@ module _ (c : Chunk) (samples : Recordings) (ok : ChunkOk c samples) (i : ℕ) (
       room : (d : ℕ) → suc d ≤ trackDepth → 7 + 15 * d + 8 ≤ 127
       room d h = omega arith
 
+      short : (d : ℕ) → suc d ≤ trackDepth → 7 + 15 * d ≤ 127
+      short d h = omega arith
+
       low : (d : ℕ) → suc d ≤ trackDepth → 15 * d ≤ 121
       low d h = omega arith
 
-  -- so whatever is summed in a track is finite
-  pub sum-finite : (d : ℕ) → suc d ≤ trackDepth → (line : ℕ) → Both Finite (trackSum d c samples line i)
-  sum-finite d h line =
-      both-map Finite (λ x v. v .is-finite) (sum-within d (15 * d) line (omega arith) (track-within d (omega arith)))
+  -- so whatever is summed in a track is finite, once it is placed
+  pub placed-finite : (d : ℕ) → suc d ≤ trackDepth → (j : ℕ) → j < c .«track_count» → Both Finite (placed (trackRow c j .placing) (trackSum d c samples (suc j) i))
+  placed-finite d h j l =
+      both-map Finite (λ x v. v .is-finite)
+      (placed-within (7 + 15 * d) (omega arith) (trackRow c j .placing) (ok .placings j l) (sum-within d (15 * d) (suc j) (omega arith) (track-within d (omega arith))))

@@ -3,7 +3,7 @@
 -- route, nor has any track below them. Of c' and its samples nothing is asked but that they are what is left. Assumes nothing.
 use mathlib.Core.Path.{_≡_}
 use mathlib.Core.Logic.{_⊎_}
-use mathlib.Core.Bool.{Bool, false}
+use mathlib.Core.Bool.{Bool, false, cond}
 use Prim.Native.Nat.{ℕ, suc, _<_}
 use lib.Dec.{T}
 use lib.Ieee.Scale.{finite}
@@ -11,6 +11,7 @@ use Rattle.recordings.specs.Recordings.{Recordings}
 use Rattle.laws.specs.Kept.{rank}
 use Rattle.laws.proofs.laws.Float.{Zero}
 use Rattle.laws.specs.FloatBounds.{Within}
+use Rattle.spatial.specs.declared.placing.Placing.the-variants.{Plain}
 use Rattle.chunk.specs.declared.chunk.ChunkTrack.{ChunkTrack}
 use Rattle.chunk.specs.declared.chunk.ChunkRoute.{ChunkRoute}
 use Rattle.chunk.specs.declared.chunk.Chunk.{Chunk}
@@ -19,9 +20,9 @@ use Rattle.track.specs.Sound.{soundFrame}
 use Rattle.noninterference.specs.Removed.{newLine}
 use Rattle.noninterference.proofs.laws.Lines.{keptLine, openLine}
 
--- a row with its references counted among the lines kept
-abbrev pub newTrack : (ℕ → Bool) → ChunkTrack → ChunkTrack
-newTrack keep t = record { parent = newLine keep (t .parent); advancing = t .advancing; volume = t .volume; fade = t .fade }
+-- a row with its references counted among the lines kept, and without its placing where it is chosen
+abbrev pub newTrack : (ℕ → Bool) → Bool → ChunkTrack → ChunkTrack
+newTrack keep chosen t = record { parent = newLine keep (t .parent); advancing = t .advancing; placing = cond chosen Plain (t .placing); volume = t .volume; fade = t .fade }
 
 abbrev pub newRoute : (ℕ → Bool) → ChunkRoute → ChunkRoute
 newRoute keep r = record { track = newLine keep (r .track); send = r .send; amplitude = r .amplitude }
@@ -45,7 +46,7 @@ pub record Without (keep chosen quiet : ℕ → Bool) (c : Chunk) (samples : Rec
   pub send-count : c' .«send_count» ≡ c .«send_count»
   pub same-sends : (s : ℕ) → s < c .«send_count» → sendRow c' s ≡ sendRow c s
   pub track-count : c' .«track_count» ≡ rank keep (c .«track_count»)
-  pub kept-tracks : (j : ℕ) → j < c .«track_count» → T (keep j) → trackRow c' (rank keep j) ≡ newTrack keep (trackRow c j)
+  pub kept-tracks : (j : ℕ) → j < c .«track_count» → T (keep j) → trackRow c' (rank keep j) ≡ newTrack keep (chosen j) (trackRow c j)
   pub route-count : c' .«route_count» ≡ rank (keptRoute keep c) (c .«route_count»)
   pub kept-routes : (r : ℕ) → r < c .«route_count» → T (keptRoute keep c r) → routeRow c' (rank (keptRoute keep c) r) ≡ newRoute keep (routeRow c r)
   pub sound-count : c' .«sound_count» ≡ rank (keptSound keep chosen c) (c .«sound_count»)

@@ -15,7 +15,7 @@ use Rattle.laws.specs.FloatBounds.{Within}
 use Rattle.laws.proofs.laws.FloatBounds.{within-zero}
 use Rattle.scene.specs.declared.scene.Scene.{Scene}
 use Rattle.scene.specs.declared.scene.SoundLine.{SoundLine}
-use Rattle.accepted.specs.Lines.{trackLine, routeLine, soundLine}
+use Rattle.accepted.specs.Lines.{trackLine, routeLine, soundLine, placingAt}
 use Rattle.frame.specs.declared.frame.Frame.{Frame}
 use Rattle.chunk.specs.declared.chunk.ChunkSound.{ChunkSound}
 use Rattle.frame.specs.Frame.{zeroFrame, sampleFrame}
@@ -34,9 +34,9 @@ filled : {A : Type 0} (f : ℕ → A) (n size : ℕ) (x d : A) (i : ℕ) → i <
 filled f n size x d i a b = changed-below (λ k y. f k) n (replicate size x) i d a (subst (λ (k : ℕ). i < k) (sym (length-replicate size x)) b)
 
 module _ (s : Scene) (n : ℕ) (m : Mixer) where
-  pub track-line : (j : ℕ) → j < s .«track_count» → j < trackPlaces → chunk.trackRow (chunkOf s n m) j ≡ chunkTrack (trackLine s j) (stateOf (m .tracks) j)
+  pub track-line : (j : ℕ) → j < s .«track_count» → j < trackPlaces → chunk.trackRow (chunkOf s n m) j ≡ chunkTrack (trackLine s j) (placingAt s j) (stateOf (m .tracks) j)
   unfolding chunkOf chunkTracks
-  track-line j a b = filled (λ t. chunkTrack (trackLine s t) (stateOf (m .tracks) t)) (s .«track_count») trackPlaces emptyTrackRow chunk.absentTrackRow j a b
+  track-line j a b = filled (λ t. chunkTrack (trackLine s t) (placingAt s t) (stateOf (m .tracks) t)) (s .«track_count») trackPlaces emptyTrackRow chunk.absentTrackRow j a b
 
   pub route-line : (r : ℕ) → r < s .«route_count» → r < routeLines → chunk.routeRow (chunkOf s n m) r ≡ chunkRoute (routeLine s r) (parameterOf (m .routes) r)
   unfolding chunkOf chunkRoutes

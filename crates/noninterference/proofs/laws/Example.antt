@@ -1,5 +1,5 @@
--- A chunk that loses what lies inside: the relation has members. Track 0 is chosen and muted, with a sound and a route of its own; track 1 stands below it,
--- with a sound. What is left is track 0 and its route. Assumes nothing.
+-- A chunk that loses what lies inside: the relation has members. Track 0 is chosen and muted, with a placing, a sound and a route of its own; track 1 stands
+-- below it, with a placing and a sound. What is left is track 0 and its route. Assumes nothing.
 use mathlib.Core.Path.{_≡_, refl}
 use mathlib.Core.Logic.{_⊎_, inr}
 use mathlib.Core.Bool.{Bool, true, false}
@@ -7,6 +7,7 @@ use mathlib.Core.List.{[], _∷_}
 use Prim.Native.Nat.{ℕ, zero, suc, _+_, _*_, _≤_, _<_}
 use native.Mathlib.Omega.{arith}
 use lib.Dec.{T, lit≤}
+use lib.Ieee.{fits, le, ofInt, neg}
 use lib.Ieee.Scale.{finite}
 use lib.ListN.{length, replicate}
 use Rattle.recordings.specs.Recordings.{Recordings, recordings, fromVisitor, recording}
@@ -16,6 +17,9 @@ use Rattle.laws.specs.Float.{posZero, one}
 use Rattle.laws.specs.FloatBounds.{Within}
 use Rattle.laws.specs.DecibelRange.{ValueRange}
 use Rattle.laws.proofs.laws.DecibelRange.{minus-sixty, minus-sixty-silent, posZero-target, silent→target, target→value}
+use Rattle.spatial.specs.declared.placing.Placing.{Placing}
+use Rattle.spatial.specs.declared.placing.Placing.the-variants.{Plain, Unheard, Spatial}
+use Rattle.spatial.specs.Spatial.{PlacingIn}
 use Rattle.chunk.specs.declared.chunk.Level.{Level}
 use Rattle.chunk.specs.declared.chunk.ChunkTrack.{ChunkTrack}
 use Rattle.chunk.specs.declared.chunk.ChunkRoute.{ChunkRoute}
@@ -46,11 +50,14 @@ unity = record { before = record { 0 = posZero }; now = record { 0 = posZero } }
 abbrev silence : Level
 silence = record { before = record { 0 = minus-sixty }; now = record { 0 = minus-sixty } }
 
-abbrev muted : ChunkTrack
-muted = record { parent = 0; advancing = true; volume = silence; fade = unity }
+abbrev near : Placing
+near = Spatial (record { 0 = posZero })
+
+abbrev muted : Placing → ChunkTrack
+muted placing = record { parent = 0; advancing = true; placing = placing; volume = silence; fade = unity }
 
 abbrev inner : ChunkTrack
-inner = record { parent = 1; advancing = true; volume = unity; fade = unity }
+inner = record { parent = 1; advancing = true; placing = Unheard; volume = unity; fade = unity }
 
 abbrev route : ChunkRoute
 route = record { track = 1; send = 1; amplitude = record { 0 = one } }
@@ -69,7 +76,7 @@ whole =
     record {
       frames = 1;
       «track_count» = 2;
-      tracks = muted ∷ inner ∷ replicate 30 inner;
+      tracks = muted near ∷ inner ∷ replicate 30 inner;
       «send_count» = 1;
       sends = replicate sendLines unity;
       «route_count» = 1;
@@ -84,7 +91,7 @@ rest =
     record {
       frames = 1;
       «track_count» = 1;
-      tracks = muted ∷ [];
+      tracks = muted Plain ∷ [];
       «send_count» = 1;
       sends = replicate sendLines unity;
       «route_count» = 1;
@@ -101,6 +108,10 @@ silence-in : LevelInRange silence
 silence-in =
     let h : ValueRange minus-sixty = target→value minus-sixty (silent→target minus-sixty minus-sixty-silent) in
     record { before = h; now = h }
+
+near-in : PlacingIn near
+unfolding fits le ofInt neg
+near-in = record { held = tt; least = tt; most = tt }
 
 -- two lines, and one
 pub two : (P : ℕ → Type 0) → P 0 → P 1 → (j : ℕ) → j < 2 → P j
@@ -123,6 +134,7 @@ whole-ok =
       sounds = lit≤ tt;
       volumes = two (λ j. LevelInRange (trackRow whole j .volume)) silence-in unity-in;
       fades = two (λ j. LevelInRange (trackRow whole j .fade)) unity-in unity-in;
+      placings = two (λ j. PlacingIn (trackRow whole j .placing)) near-in tt;
       sendLevels = only (λ s. LevelInRange (sendRow whole s)) unity-in;
       mainLevel = unity-in;
       routed = only (λ r. (1 ≤ routeRow whole r .send) × (routeRow whole r .send ≤ sendLines)) (lit≤ tt, lit≤ tt);
@@ -157,7 +169,7 @@ example =
       send-count = refl;
       same-sends = λ s l. refl;
       track-count = refl;
-      kept-tracks = two (λ j. T (first j) → trackRow rest (rank first j) ≡ newTrack first (trackRow whole j)) (λ t. refl) (λ t. absurd t);
+      kept-tracks = two (λ j. T (first j) → trackRow rest (rank first j) ≡ newTrack first (first j) (trackRow whole j)) (λ t. refl) (λ t. absurd t);
       route-count = refl;
       kept-routes = only (λ r. T (keptRoute first whole r) → routeRow rest (rank (keptRoute first whole) r) ≡ newRoute first (routeRow whole r)) (λ t. refl);
       sound-count = refl;

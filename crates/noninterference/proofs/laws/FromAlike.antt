@@ -29,6 +29,7 @@ use Rattle.noninterference.proofs.laws.LeftLines.{differ, counted-field
 use Rattle.noninterference.proofs.laws.SceneLines.{sound-at, sound-track-at}
 use Rattle.noninterference.proofs.laws.Silent.{quiet, silent-track, quiet-below, quiet-unrouted}
 use Rattle.noninterference.proofs.laws.KeptLines.{track-new, route-new, order-new, track-kept, routes-kept, sounds-kept, order-kept}
+use Rattle.noninterference.proofs.laws.PlacingsLeft.{placings-left}
 use Rattle.noninterference.proofs.laws.SoundsLeft.{unplaced-field, unplaced-length, soundsLeft, sound-row, played-at, frame-same}
 
 -- ---- the lines of the scene left
@@ -125,9 +126,9 @@ module _ (ts ts' : Tables) (chosen chosen' : Choice) (tables : SameTables (leftT
 
 -- ---- the relation
 
-seven : (ts : Tables) (chosen : Choice) → sounds < length (leftTables ts chosen)
+nine : (ts : Tables) (chosen : Choice) → sounds < length (leftTables ts chosen)
 unfolding leftTables
-seven ts chosen = lit< tt
+nine ts chosen = lit< tt
 
 -- What is left of one scene, with the samples of another whose tables and frames left are the same. Nothing else is asked of the other.
 pub left-of : (ts ts' : Tables) (samples samples' : Recordings) (output : ℕ) (chosen chosen' : Choice) → TablesPass ts samples output → AreSamples samples → AreSamples samples'
@@ -140,7 +141,7 @@ left-of ts ts' samples samples' output chosen chosen' passed fit fit' tables fra
     let keep = keptTracks ts chosen in
     let s = sceneOf ts in
     let e = sceneOf (leftTables ts' chosen') in
-    let eq = same-tables (leftTables ts chosen) (leftTables ts' chosen') (seven ts chosen) (seven ts' chosen') tables in
+    let eq = same-tables (leftTables ts chosen) (leftTables ts' chosen') (nine ts chosen) (nine ts' chosen') tables in
     let routes-now = routes-kept ts chosen in
     let sounds-now = sounds-kept ts chosen samples output passed in
     let orders-now = order-kept ts chosen samples output passed in
@@ -169,6 +170,7 @@ left-of ts ts' samples samples' output chosen chosen' passed fit fit' tables fra
           (λ (kept : ℕ → Bool). (k : ℕ) → k < linesAt ts sounds → T (kept k) → (i : ℕ) → i < soundLine s k .count
           → lineFrame samples' (soundLine e (rank kept k)) i ≡ lineFrame samples (soundLine s k) i)
           sounds-now (λ k h t. sound-frames ts ts' chosen chosen' eq k h t samples samples' fit fit' frames);
+      placings = placings-left ts samples output passed chosen (leftTables ts' chosen') (sym (eq .listener)) (sym (eq .placings));
       order-count =
           left-count (keptOrders ts chosen) (λ i row. renumberedOrder ts chosen row) (rowsAt ts orders) (eq .orders)
           ∙ rank-cong (keptOrders ts chosen) (keptOrder keep s) (linesAt ts orders) orders-now;

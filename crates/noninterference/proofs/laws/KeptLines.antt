@@ -6,7 +6,7 @@ use Prim.Native.Nat.{ℕ, suc, _<_}
 use lib.Dec.{lit<}
 use lib.ListN.{getD}
 use Rattle.recordings.specs.Recordings.{Recordings}
-use Rattle.scene_tables.specs.Tables.{natural, tracks, routes, sounds, orders, trackColumn, routeColumn, soundColumn, orderColumn}
+use Rattle.scene_tables.specs.Tables.{natural, tracks, routes, sounds, placings, orders, trackColumn, routeColumn, soundColumn, placingColumn, orderColumn}
 use Rattle.scene.specs.declared.scene.OrderLine.{OrderLine}
 use Rattle.scene_questions.specs.Questions.{Tables, rowsAt, linesAt, cell, parentOf}
 use Rattle.scene.specs.Scene.{trackOf, routeOf, orderOf, sceneOf}
@@ -14,7 +14,7 @@ use Rattle.accepted.specs.Lines.{trackLine}
 use Rattle.accepted.proofs.laws.Passed.{TablesPass}
 use Rattle.accepted.proofs.laws.Line.{line-ok}
 use Rattle.noninterference.proofs.laws.Lines.{keptLine, openLine}
-use Rattle.noninterference.specs.Removed.{Choice, removedTrack, removedRoute, removedSound, removedOrder, keptTracks, keptRoutes, keptSounds, keptOrders, renumbered, renumberedOrder}
+use Rattle.noninterference.specs.Removed.{Choice, removedTrack, removedRoute, removedSound, removedPlacing, removedOrder, keptTracks, keptRoutes, keptSounds, keptPlacings, keptOrders, renumbered, renumberedOrder}
 use Rattle.noninterference.proofs.laws.SceneLeft.{keptRouteLine, keptSoundLine, keptIndex, keptOrder, newTrackLine, newRouteLine, newOrderLine}
 use Rattle.noninterference.proofs.laws.Inside.{names-kept, open-line}
 use Rattle.noninterference.proofs.laws.LeftLines.{differ, counted-field, counted-other}
@@ -52,6 +52,10 @@ module _ (ts : Tables) (chosen : Choice) where
         fun-ext (λ k.
         open-line ts (passed-early ts samples output passed) chosen (natural (cell (rowsAt ts sounds) k (soundColumn .track)))
         ∙ ap (openLine (keptTracks ts chosen) chosen) (sym (sound-track-at ts k)))
+
+    pub placing-kept : (p : ℕ) → keptPlacings ts chosen p ≡ openLine (keptTracks ts chosen) chosen (natural (cell (rowsAt ts placings) p (placingColumn .track)))
+    unfolding removedPlacing
+    placing-kept p = open-line ts (passed-early ts samples output passed) chosen (natural (cell (rowsAt ts placings) p (placingColumn .track)))
 
     pub order-kept : (i : ℕ) → i < linesAt ts orders → keptOrders ts chosen i ≡ keptOrder (keptTracks ts chosen) (sceneOf ts) i
     unfolding removedOrder orderOf

@@ -12,7 +12,7 @@ use lib.Ieee.{Float, binary32, fits, toBits, ofBits}
 use lib.Ieee.Bits.{ofBits-toBits}
 use Rattle.recordings.specs.Recordings.{Recordings}
 use Rattle.laws.proofs.laws.Choice.{and-left, and-right, and-same}
-use Rattle.scene_tables.specs.Tables.{head, clocks, tracks, sends, routes, sounds, orders}
+use Rattle.scene_tables.specs.Tables.{head, clocks, tracks, sends, routes, sounds, listener, placings, orders}
 use Rattle.scene_questions.specs.Questions.{Tables, rowsAt}
 use Rattle.noninterference.specs.Removed.{Choice}
 use Rattle.noninterference.specs.Alike.{same, unplaced, sameTables, framesLeft, sameBits}
@@ -70,6 +70,8 @@ pub record SameTables (l m : Tables) : Type 0 where
   pub sends : rowsAt l sends ≡ rowsAt m sends
   pub routes : rowsAt l routes ≡ rowsAt m routes
   pub sounds : unplaced (rowsAt l sounds) ≡ unplaced (rowsAt m sounds)
+  pub listener : rowsAt l listener ≡ rowsAt m listener
+  pub placings : rowsAt l placings ≡ rowsAt m placings
   pub orders : rowsAt l orders ≡ rowsAt m orders
 
 -- a table other than that of the sounds, and that of the sounds
@@ -92,6 +94,8 @@ same-tables l m h k e =
       sends = row-kept l m sends x y (differ tt) q;
       routes = row-kept l m routes x y (differ tt) q;
       sounds = row-set l m x y h k q;
+      listener = row-kept l m listener x y (differ tt) q;
+      placings = row-kept l m placings x y (differ tt) q;
       orders = row-kept l m orders x y (differ tt) q;
     }
 

@@ -19,7 +19,8 @@ use Rattle.parameter.specs.declared.parameter.Parameter.{Parameter}
 use Rattle.parameter.specs.Range.{ParameterIn, valueRange}
 use Rattle.parameter.proofs.laws.Parameter.{value-admitted}
 use Rattle.scene.specs.declared.scene.Scene.{Scene}
-use Rattle.accepted.specs.Lines.{trackLine, routeLine, soundLine}
+use Rattle.scene.specs.declared.scene.TrackLine.{TrackLine}
+use Rattle.accepted.specs.Lines.{trackLine, routeLine, soundLine, placingAt}
 use Rattle.accepted.specs.SceneOk.{SceneOk, SamplesOk}
 use Rattle.chunk.specs.declared.chunk.Chunk.{Chunk}
 use Rattle.chunk.specs.declared.chunk.ChunkTrack.{ChunkTrack}
@@ -34,7 +35,7 @@ use Rattle.noninterference.specs.Removed.{newLine}
 use Rattle.noninterference.proofs.laws.Lines.{keptLine, openLine}
 use Rattle.noninterference.proofs.laws.Chunk.{newTrack, newRoute, keptRoute, keptSound, Muted, Without}
 use Rattle.noninterference.proofs.laws.Bounds.{level-silent}
-use Rattle.noninterference.proofs.laws.SceneLeft.{keptRouteLine, keptSoundLine, MutedTrack, SceneLeft}
+use Rattle.noninterference.proofs.laws.SceneLeft.{keptRouteLine, keptSoundLine, newTrackLine, MutedTrack, SceneLeft}
 use Rattle.noninterference.proofs.laws.SilentMoves.{SilentVolume}
 use Rattle.noninterference.proofs.laws.Run.{ChunkLeft}
 use Rattle.noninterference.proofs.laws.ChunkLines.{track-line, route-line, sound-line, plays-same, heard-within}
@@ -50,7 +51,7 @@ module _ {keep chosen quiet : ℕ → Bool} {s : Scene} {samples : Recordings} {
 
   -- ---- lines of the scene's chunk
 
-  track-at : (j : ℕ) → j < s .«track_count» → chunk.trackRow c j ≡ chunkTrack (trackLine s j) (stateOf (m .tracks) j)
+  track-at : (j : ℕ) → j < s .«track_count» → chunk.trackRow c j ≡ chunkTrack (trackLine s j) (placingAt s j) (stateOf (m .tracks) j)
   track-at j b = track-line s n m j b (lt-of-lt-of-le b (ok .trackCount))
 
   route-at : (i : ℕ) → i < s .«route_count» → chunk.routeRow c i ≡ chunkRoute (routeLine s i) (parameterOf (m .routes) i)
@@ -92,11 +93,14 @@ module _ {keep chosen quiet : ℕ → Bool} {s : Scene} {samples : Recordings} {
 
   -- ---- kept lines
 
-  kept-track : (j : ℕ) → j < s .«track_count» → T (keep j) → chunk.trackRow c' (rank keep j) ≡ newTrack keep (chunk.trackRow c j)
+  kept-track : (j : ℕ) → j < s .«track_count» → T (keep j) → chunk.trackRow c' (rank keep j) ≡ newTrack keep (chosen j) (chunk.trackRow c j)
   unfolding chunkTrack
   kept-track j b t =
       let p = place keep j (s .«track_count») (e .«track_count») trackPlaces b (ok .trackCount) t (w .track-count) in
-      track-line e n m' (rank keep j) (p .0) (p .1) ∙ ap₂ chunkTrack (w .tracks j b t) (r .left .tracks .same j b t) ∙ sym (ap (newTrack keep) (track-at j b))
+      track-line e n m' (rank keep j) (p .0) (p .1)
+      ∙ ap (λ (l : TrackLine). chunkTrack l (placingAt e (rank keep j)) (stateOf (m' .tracks) (rank keep j))) (w .tracks j b t)
+      ∙ ap₂ (chunkTrack (newTrackLine keep (trackLine s j))) (w .placings j b t) (r .left .tracks .same j b t)
+      ∙ sym (ap (newTrack keep (chosen j)) (track-at j b))
 
   kept-route-at : (i : ℕ) → i < s .«route_count» → T (keptRouteLine keep s i) → chunk.routeRow c' (rank (keptRouteLine keep s) i) ≡ newRoute keep (chunk.routeRow c i)
   unfolding chunkRoute

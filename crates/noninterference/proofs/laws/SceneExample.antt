@@ -1,8 +1,9 @@
 -- A scene that loses what lies inside: the relation has members. Track 0's volume is silent, and track 1, with a sound, stands below it. Track 2 is paused at
--- once before the first block; track 3, with a route and orders of its own, stands below it. Tracks 0 and 2 are chosen. Track 4 is kept. Assumes nothing.
+-- once before the first block; track 3, with a route and orders of its own, stands below it. Tracks 0 and 2 are chosen. Track 4 is kept. Tracks 0, 1 and 4 are
+-- placed. Assumes nothing.
 use mathlib.Core.Path.{_≡_, refl, ap}
 use mathlib.Core.Logic.{_⊎_, inl, inr}
-use mathlib.Core.Bool.{Bool, true, false, not}
+use mathlib.Core.Bool.{Bool, true, false, not, cond}
 use mathlib.Core.List.{[], _∷_}
 use Prim.Native.Nat.{ℕ, zero, suc, _<_}
 use native.Mathlib.Omega.{arith}
@@ -16,14 +17,17 @@ use Rattle.laws.specs.Float.{posZero, one}
 use Rattle.laws.proofs.laws.DecibelRange.{SilentRange, minus-sixty, minus-sixty-silent}
 use Rattle.tween.specs.declared.start_time.StartTime.the-variants.{Immediate}
 use Rattle.tween.specs.declared.tween.Easing.the-variants.{Linear}
+use Rattle.spatial.specs.declared.placing.Placing.{Placing}
+use Rattle.spatial.specs.declared.placing.Placing.the-variants.{Plain, Spatial}
 use Rattle.scene.specs.declared.scene.Head.{Head}
 use Rattle.scene.specs.declared.scene.Scene.{Scene}
 use Rattle.scene.specs.declared.scene.TrackLine.{TrackLine}
 use Rattle.scene.specs.declared.scene.RouteLine.{RouteLine}
+use Rattle.scene.specs.declared.scene.TrackPlacing.{TrackPlacing}
 use Rattle.scene.specs.declared.scene.OrderLine.{OrderLine}
 use Rattle.scene.specs.declared.scene.OrderKind.{OrderKind}
 use Rattle.scene.specs.declared.scene.OrderKind.the-variants.{TrackVolume, RouteVolume, Pause, Resume}
-use Rattle.accepted.specs.Lines.{trackLine, routeLine, soundLine, orderLine}
+use Rattle.accepted.specs.Lines.{trackLine, routeLine, soundLine, placingAt, orderLine}
 use Rattle.order_lines.specs.Orders.{kindNumber}
 use Rattle.frame.specs.Frame.{sampleFrame}
 use Rattle.noninterference.specs.Removed.{newLine}
@@ -52,6 +56,12 @@ still (suc (suc n)) = false
 abbrev at : ℕ → Float → TrackLine
 at parent volume = record { parent = parent; volume = record { 0 = volume } }
 
+abbrev placed : Placing → TrackPlacing
+placed placing = record { placing = placing }
+
+abbrev heardAt : Float → TrackPlacing
+heardAt level = placed (Spatial (record { 0 = level }))
+
 abbrev routeFrom : ℕ → RouteLine
 routeFrom line = record { track = line; send = 1; volume = record { 0 = posZero } }
 
@@ -78,6 +88,7 @@ whole =
       routes = routeFrom 4 ∷ routeFrom 5 ∷ [];
       «sound_count» = 2;
       sounds = record { track = 2; first = 0; count = 1; from = fromHouse } ∷ record { track = 5; first = 1; count = 1; from = fromHouse } ∷ [];
+      placings = heardAt posZero ∷ heardAt posZero ∷ placed Plain ∷ placed Plain ∷ heardAt minus-sixty ∷ [];
       «order_count» = 5;
       orders = order Resume 4 posZero ∷ order Pause 3 posZero ∷ order RouteVolume 1 one ∷ order RouteVolume 2 one ∷ order TrackVolume 5 one ∷ [];
     }
@@ -96,6 +107,7 @@ rest =
       routes = routeFrom 3 ∷ [];
       «sound_count» = 1;
       sounds = record { track = 3; first = 0; count = 1; from = fromVisitor } ∷ [];
+      placings = placed Plain ∷ placed Plain ∷ heardAt minus-sixty ∷ [];
       «order_count» = 3;
       orders = order Pause 2 posZero ∷ order RouteVolume 1 one ∷ order TrackVolume 3 one ∷ [];
     }
@@ -159,6 +171,7 @@ example =
           two (λ k. T (keptSoundLine kept opened whole k) → (i : ℕ) → i < soundLine whole k .count
           → lineFrame visiting (soundLine rest (rank (keptSoundLine kept opened whole) k)) i ≡ lineFrame samples (soundLine whole k) i)
           (λ k. absurd k) (λ k. only (λ i. lineFrame visiting (soundLine rest 0) i ≡ lineFrame samples (soundLine whole 1) i) refl);
+      placings = five (λ t. T (kept t) → placingAt rest (rank kept t) ≡ cond (opened t) Plain (placingAt whole t)) (λ k. refl) (λ k. absurd k) (λ k. refl) (λ k. absurd k) (λ k. refl);
       order-count = refl;
       orders = five (λ i. T (keptOrder kept whole i) → orderLine rest (rank (keptOrder kept whole) i) ≡ newOrderLine kept whole (orderLine whole i)) (λ k. absurd k) (λ k. refl) (λ k. absurd k) (λ k. refl) (λ k. refl);
       tree = five (λ t. kept t ≡ openLine kept opened (trackLine whole t .parent)) refl refl refl refl refl;

@@ -4,13 +4,14 @@
 -- is left.
 use mathlib.Core.Path.{_≡_}
 use mathlib.Core.Logic.{_⊎_}
-use mathlib.Core.Bool.{Bool, true}
+use mathlib.Core.Bool.{Bool, true, cond}
 use Prim.Native.Nat.{ℕ, suc, _+_, _<_}
 use lib.Dec.{T}
 use Rattle.recordings.specs.Recordings.{Recordings, recording}
 use Rattle.laws.specs.Kept.{rank}
 use Rattle.laws.proofs.laws.DecibelRange.{SilentRange}
 use Rattle.tween.specs.declared.start_time.StartTime.the-variants.{Immediate}
+use Rattle.spatial.specs.declared.placing.Placing.the-variants.{Plain}
 use Rattle.scene.specs.declared.scene.Scene.{Scene}
 use Rattle.scene.specs.declared.scene.TrackLine.{TrackLine}
 use Rattle.scene.specs.declared.scene.RouteLine.{RouteLine}
@@ -18,7 +19,7 @@ use Rattle.scene.specs.declared.scene.SoundLine.{SoundLine}
 use Rattle.scene.specs.declared.scene.OrderLine.{OrderLine}
 use Rattle.scene.specs.declared.scene.OrderKind.{OrderKind}
 use Rattle.scene.specs.declared.scene.OrderKind.the-variants.{MainVolume, TrackVolume, SendVolume, RouteVolume, Pause, Resume}
-use Rattle.accepted.specs.Lines.{clockLine, trackLine, sendLine, routeLine, soundLine, orderLine}
+use Rattle.accepted.specs.Lines.{clockLine, trackLine, sendLine, routeLine, soundLine, placingAt, orderLine}
 use Rattle.frame.specs.declared.frame.Frame.{Frame}
 use Rattle.frame.specs.Frame.{sampleFrame}
 use Rattle.noninterference.specs.Removed.{newLine}
@@ -116,6 +117,8 @@ pub record SceneLeft (keep chosen quiet : ℕ → Bool) (s : Scene) (samples : R
   -- every frame that a sound plays
   pub sound-frames : (k : ℕ) → k < s .«sound_count» → T (keptSoundLine keep chosen s k) → (i : ℕ) → i < soundLine s k .count
       → lineFrame samples' (soundLine e (rank (keptSoundLine keep chosen s) k)) i ≡ lineFrame samples (soundLine s k) i
+  -- a chosen track's placing is removed
+  pub placings : (t : ℕ) → t < s .«track_count» → T (keep t) → placingAt e (rank keep t) ≡ cond (chosen t) Plain (placingAt s t)
   pub order-count : e .«order_count» ≡ rank (keptOrder keep s) (s .«order_count»)
   pub orders : (i : ℕ) → i < s .«order_count» → T (keptOrder keep s i) → orderLine e (rank (keptOrder keep s) i) ≡ newOrderLine keep s (orderLine s i)
   -- a track is kept where it stands right under the mixer, or under a track that is kept and not chosen

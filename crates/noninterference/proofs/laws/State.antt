@@ -1,9 +1,9 @@
 -- The mixer of a scene, and the mixer of what is left of the scene: what they share, and that new mixers share it. Assumes nothing.
-use mathlib.Core.Path.{_≡_, refl, sym, ap, ap₂, _∙_, subst}
+use mathlib.Core.Path.{_≡_, sym, ap, ap₂, _∙_, subst}
 use mathlib.Core.Bool.{Bool}
 use mathlib.Core.List.{List}
-use Prim.Native.Nat.{ℕ, zero, suc}
-use lib.ListN.{getD, replicate, length-replicate}
+use Prim.Native.Nat.{ℕ}
+use lib.ListN.{replicate, length-replicate}
 use Rattle.recordings.specs.Recordings.{Recordings}
 use Rattle.limits.specs.Limits.{clockLines, routeLines, sendLines, soundLines, trackPlaces}
 use Rattle.laws.specs.Loop.{changed}
@@ -27,7 +27,7 @@ use Rattle.mixer.specs.declared.mixer.Mixer.{Mixer}
 use Rattle.mixer.specs.Sub.{trackNew}
 use Rattle.mixer.specs.Mixer.{emptyTrack, emptyParameter, emptyClock, clocksNew, tracksNew, sendsNew, routesNew, mixerNew, absentParameter, absentTrack}
 use Rattle.noninterference.proofs.laws.SceneLeft.{keptRouteLine, keptSoundLine, SceneLeft}
-use Rattle.noninterference.proofs.laws.Arrays.{ArrayLeft, changed-left}
+use Rattle.noninterference.proofs.laws.Arrays.{ArrayLeft, all-same, changed-left}
 
 pub record MixerLeft (keep chosen : ℕ → Bool) (s : Scene) (m m' : Mixer) : Type 0 where
   pub clocks : m' .clocks ≡ m .clocks
@@ -39,12 +39,6 @@ pub record MixerLeft (keep chosen : ℕ → Bool) (s : Scene) (m m' : Mixer) : T
 
 clocksWith : List Clock → ℕ → Clocks
 clocksWith l n = record { clocks = l; count = n }
-
--- no sound has played
-nothing-played : (n i : ℕ) → _≡_ {A = ℕ} (getD (replicate n 0) i 0) 0
-nothing-played zero i = refl
-nothing-played (suc n) zero = refl
-nothing-played (suc n) (suc i) = nothing-played n i
 
 module _ {keep chosen quiet : ℕ → Bool} {s : Scene} {samples : Recordings} {e : Scene} {samples' : Recordings} (ok : SceneOk s) (w : SceneLeft keep chosen quiet s samples e samples') where
   clocks-new : clocksNew e ≡ clocksNew s
@@ -97,6 +91,6 @@ module _ {keep chosen quiet : ℕ → Bool} {s : Scene} {samples : Recordings} {
         played = record {
           places = length-replicate {A = ℕ} soundLines 0;
           places' = length-replicate {A = ℕ} soundLines 0;
-          same = λ k b t. nothing-played soundLines (rank (keptSoundLine keep chosen s) k) ∙ sym (nothing-played soundLines k);
+          same = λ k b t. all-same soundLines (rank (keptSoundLine keep chosen s) k) 0 ∙ sym (all-same soundLines k 0);
         };
       }

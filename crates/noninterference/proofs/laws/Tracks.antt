@@ -1,18 +1,21 @@
 -- A track that is kept has the same frames, or zeros where it is chosen. Assumes nothing.
-use mathlib.Core.Path.{_≡_, refl, sym, ap, _∙_, subst}
+use mathlib.Core.Path.{_≡_, refl, sym, ap, ap₂, _∙_, subst}
 use mathlib.Core.Logic.{inl, inr}
-use mathlib.Core.Bool.{Bool, false}
+use mathlib.Core.Bool.{Bool, false, not, cond}
 use Prim.Native.Nat.{ℕ, zero, suc, _≤_, _<_}
 use native.Mathlib.Omega.{arith}
 use lib.Dec.{T}
 use lib.Ieee.{Float, binary32}
+use lib.Ieee.Bits.{is-true, is-false}
 use lib.Ieee.Scale.{finite}
 use Rattle.recordings.specs.Recordings.{Recordings}
-use Rattle.laws.proofs.laws.Choice.{cond-false}
+use Rattle.laws.proofs.laws.Choice.{cond-true, cond-false}
 use Rattle.laws.specs.Kept.{rank}
 use Rattle.laws.proofs.laws.Kept.{kept-or-removed}
 use Rattle.laws.proofs.laws.Float.{Zero}
 use Rattle.laws.proofs.laws.FloatZero.{mul-zero-left, mul-zero-right}
+use Rattle.spatial.specs.declared.placing.Placing.{Placing}
+use Rattle.spatial.specs.declared.placing.Placing.the-variants.{Plain}
 use Rattle.frame.specs.declared.frame.Frame.{Frame}
 use Rattle.chunk.specs.declared.chunk.Chunk.{Chunk}
 use Rattle.chunk.specs.declared.chunk.ChunkTrack.{ChunkTrack}
@@ -20,38 +23,38 @@ use Rattle.frame.specs.Frame.{zeroFrame, added, scaled}
 use Rattle.chunk.specs.Chunk.{amountAt, levelAmplitude, trackAmplitude, trackRow, soundRow}
 use Rattle.chunk.proofs.laws.Chunk.{amount-is}
 use Rattle.track.specs.Sound.{soundFrame, withSounds}
-use Rattle.track.specs.Sub.{overSubTracks, trackFrame, sumOver, trackSum}
+use Rattle.track.specs.Sub.{overSubTracks, placed, trackFrame, sumOver, trackSum}
 use Rattle.noninterference.specs.Removed.{newLine}
 use Rattle.noninterference.proofs.laws.Lines.{openLine, open-suc}
 use Rattle.noninterference.proofs.laws.Chunk.{Without}
 use Rattle.frame.specs.Running.{Both}
 use Rattle.track.proofs.laws.Running.{both-zero, zeros, track-fits}
 use Rattle.noninterference.proofs.laws.Frames.{Finite, both-scaled, Alike, same-start, same-added, at-equal}
-use Rattle.noninterference.proofs.laws.Parts.{trackWith, track-parts, track-holds}
-use Rattle.noninterference.proofs.laws.Bounds.{Size, level-within, sum-finite}
+use Rattle.noninterference.proofs.laws.Parts.{trackWith, track-parts, placed-plain, track-holds}
+use Rattle.noninterference.proofs.laws.Bounds.{Size, level-within, placed-finite}
 use Rattle.noninterference.proofs.laws.Sounds.{sounds-same, sounds-none}
 use Rattle.noninterference.proofs.laws.Below.{below-same, below-none}
 
--- ---- a silent track: whatever finite sum it has inside, its frame is zeros
+-- ---- a silent track: whatever finite frame it has before its volume, its frame is zeros
 
 silent-amplitude : (track : ChunkTrack) (amount : Float) → Zero (levelAmplitude (track .volume) amount .0) → T (finite (levelAmplitude (track .fade) amount .0)) → Zero (trackAmplitude track amount .0)
 unfolding trackAmplitude
 silent-amplitude track amount z h = mul-zero-left binary32 (levelAmplitude (track .fade) amount .0) z h
 
-stopped-frame : (track : ChunkTrack) (n i : ℕ) (sum : Frame) → track .advancing ≡ false → Both Zero (trackWith track n i sum)
+stopped-frame : (track : ChunkTrack) (n i : ℕ) (frame : Frame) → track .advancing ≡ false → Both Zero (trackWith track n i frame)
 unfolding trackWith
-stopped-frame track n i sum e = subst (Both Zero) (sym (cond-false (track .advancing) (scaled sum (trackAmplitude track (amountAt i n))) zeroFrame e)) zeros
+stopped-frame track n i frame e = subst (Both Zero) (sym (cond-false (track .advancing) (scaled frame (trackAmplitude track (amountAt i n))) zeroFrame e)) zeros
 
-muted-frame : (track : ChunkTrack) (n i : ℕ) (sum : Frame) → Zero (trackAmplitude track (amountAt i n) .0) → Both Finite sum → Both Zero (trackWith track n i sum)
-muted-frame track n i sum z h =
-    track-holds (Both Zero) track n i sum (both-scaled Zero (trackAmplitude track (amountAt i n)) (λ x f. mul-zero-right binary32 x f z) h) zeros
+muted-frame : (track : ChunkTrack) (n i : ℕ) (frame : Frame) → Zero (trackAmplitude track (amountAt i n) .0) → Both Finite frame → Both Zero (trackWith track n i frame)
+muted-frame track n i frame z h =
+    track-holds (Both Zero) track n i frame (both-scaled Zero (trackAmplitude track (amountAt i n)) (λ x f. mul-zero-right binary32 x f z) h) zeros
 
 module _ {keep chosen quiet : ℕ → Bool} {c : Chunk} {samples : Recordings} {c' : Chunk} {samples' : Recordings} (w : Without keep chosen quiet c samples c' samples') (i : ℕ) (inside : i < c .frames) where
-  silent-frame : (p : ℕ) → p < c .«track_count» → T (chosen p) → (sum : Frame) → Both Finite sum → Both Zero (trackWith (trackRow c p) (c .frames) i sum)
-  silent-frame p l t sum h =
+  silent-frame : (p : ℕ) → p < c .«track_count» → T (chosen p) → (frame : Frame) → Both Finite frame → Both Zero (trackWith (trackRow c p) (c .frames) i frame)
+  silent-frame p l t frame h =
       elim (w .chosen-silent p l t) [
-        | inl e ↦ stopped-frame (trackRow c p) (c .frames) i sum e
-        | inr m ↦ muted-frame (trackRow c p) (c .frames) i sum
+        | inl e ↦ stopped-frame (trackRow c p) (c .frames) i frame e
+        | inr m ↦ muted-frame (trackRow c p) (c .frames) i frame
             (silent-amplitude (trackRow c p) (amountAt i (c .frames)) (m .silent i inside)
             (level-within (trackRow c p .fade) (amountAt i (c .frames)) (w .in-range .fades p l) (amount-is i (c .frames) inside (w .in-range .short)) .is-finite))
             h
@@ -85,12 +88,25 @@ module _ {keep chosen quiet : ℕ → Bool} {c : Chunk} {samples : Recordings} {
 
   -- ---- a track
 
-  kept-parts : (d j : ℕ) → j < c .«track_count» → T (keep j) → trackFrame (suc d) c' samples' (suc (rank keep j)) i ≡ trackWith (trackRow c j) (c .frames) i (trackSum d c' samples' (newLine keep (suc j)) i)
+  -- the placing that is left of track j
+  abbrev placingLeft : ℕ → Placing
+  placingLeft j = cond (chosen j) Plain (trackRow c j .placing)
+
+  kept-parts : (d j : ℕ) → j < c .«track_count» → T (keep j)
+      → trackFrame (suc d) c' samples' (suc (rank keep j)) i ≡ trackWith (trackRow c j) (c .frames) i (placed (placingLeft j) (trackSum d c' samples' (newLine keep (suc j)) i))
   unfolding newLine trackWith trackAmplitude
   kept-parts d j l t =
       track-parts d c' samples' (rank keep j) i
-      ∙ ap (λ (r : ChunkTrack). trackWith r (c' .frames) i (trackSum d c' samples' (suc (rank keep j)) i)) (w .kept-tracks j l t)
-      ∙ ap (λ (n : ℕ). trackWith (trackRow c j) n i (trackSum d c' samples' (suc (rank keep j)) i)) (w .same-frames)
+      ∙ ap (λ (r : ChunkTrack). trackWith r (c' .frames) i (placed (r .placing) (trackSum d c' samples' (suc (rank keep j)) i))) (w .kept-tracks j l t)
+      ∙ ap (λ (n : ℕ). trackWith (trackRow c j) n i (placed (placingLeft j) (trackSum d c' samples' (suc (rank keep j)) i))) (w .same-frames)
+
+  -- a chosen track has no placing left, and no sum
+  chosen-none : (d j : ℕ) → T (keep j) → T (chosen j) → placed (placingLeft j) (trackSum d c' samples' (newLine keep (suc j)) i) ≡ zeroFrame
+  chosen-none d j s t = ap₂ placed (cond-true (chosen j) Plain (trackRow c j .placing) (is-true (chosen j) t)) (sum-none d j s t) ∙ placed-plain zeroFrame
+
+  -- any other track that is kept has its own
+  placing-stays : (j : ℕ) → T (not (chosen j)) → trackRow c j .placing ≡ placingLeft j
+  placing-stays j t = sym (cond-false (chosen j) Plain (trackRow c j .placing) (is-false (chosen j) t))
 
   pub track-alike : (d : ℕ) → d ≤ 4 → (j : ℕ) → j < c .«track_count» → T (keep j) → TrackAlike d j
   track-alike zero h j l s = unfold trackFrame in inl refl
@@ -98,8 +114,9 @@ module _ {keep chosen quiet : ℕ → Bool} {c : Chunk} {samples : Recordings} {
       at-equal Alike (track-parts d c samples j i) (kept-parts d j l s)
       (elim (kept-or-removed (chosen j)) [
         | inl t ↦ inr (
-          silent-frame j l t (trackSum d c samples (suc j) i) (sum-finite c samples (w .in-range) i inside heard d h (suc j)),
-          silent-frame j l t (trackSum d c' samples' (newLine keep (suc j)) i) (subst (Both Finite) (sym (sum-none d j s t)) (both-zero Finite tt)),
+          silent-frame j l t (placed (trackRow c j .placing) (trackSum d c samples (suc j) i)) (placed-finite c samples (w .in-range) i inside heard d h j l),
+          silent-frame j l t (placed (placingLeft j) (trackSum d c' samples' (newLine keep (suc j)) i)) (subst (Both Finite) (sym (chosen-none d j s t)) (both-zero Finite tt)),
         )
-        | inr t ↦ inl (ap (trackWith (trackRow c j) (c .frames) i) (sum-same d (track-alike d (omega arith)) (suc j) (open-suc keep chosen j s t)))
+        | inr t ↦ inl (ap (trackWith (trackRow c j) (c .frames) i)
+            (ap₂ placed (placing-stays j t) (sum-same d (track-alike d (omega arith)) (suc j) (open-suc keep chosen j s t))))
       ])

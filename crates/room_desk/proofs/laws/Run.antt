@@ -15,6 +15,10 @@ use Rattle.parameter.specs.Range.{ParameterIn, valueRange}
 use Rattle.decibels.specs.Answer.{Answer, amplitudeAnswer}
 use Rattle.decibels.specs.Decibels.{admitted, amplitude}
 use Rattle.decibels.proofs.laws.Decibels.{read-admitted}
+use Rattle.spatial.specs.declared.placing.Placing.{Placing}
+use Rattle.spatial.specs.declared.placing.Placing.the-variants.{Plain, Unheard, Spatial}
+use Rattle.spatial.specs.Spatial.{PlacingIn}
+use Rattle.spatial.proofs.laws.Spatial.{placing-admitted}
 use Rattle.scene_file.specs.Grammar.{tablesOf}
 use Rattle.scene_questions.specs.Questions.{answer}
 use Rattle.scene.specs.declared.scene.Scene.{Scene}
@@ -32,7 +36,7 @@ use Rattle.mixer_laws.proofs.laws.Ordered.{ordered-ok}
 use Rattle.mixer_laws.proofs.laws.Mixes.{chunk-ok}
 use Rattle.renderer.specs.Renderer.{chunkCount, chunkFrames, mixerAt, chunksDone, mixerIn, chunkIn}
 use Rattle.renderer.proofs.laws.Renderer.{few-frames, in-chunk-ok, chunks-ok, blocks-ok}
-use Rattle.room_desk.specs.NeverEleven.{GivenAt, NeverEleven}
+use Rattle.room_desk.specs.NeverEleven.{GivenAt, GivenOf, NeverEleven}
 
 module _ (s : Scene) (ok : SceneOk s) (b k : ℕ) where
   pub mixer-ok : MixerOk s (suc (b * chunkCount (s .head) + k)) (mixerIn s b k)
@@ -59,6 +63,7 @@ read-within l h amount a = interpolated-read (l .before) (l .now) amount a (h .b
 pub record Values (s : Scene) (b k : ℕ) : Type 0 where
   pub volumes : (t : ℕ) → t < s .«track_count» → ReadWithin (trackRow (chunkIn s b k) t .volume)
   pub fades : (t : ℕ) → t < s .«track_count» → ReadWithin (trackRow (chunkIn s b k) t .fade)
+  pub placings : (t : ℕ) → t < s .«track_count» → PlacingIn (trackRow (chunkIn s b k) t .placing)
   pub sends : (i : ℕ) → i < s .«send_count» → ReadWithin (sendRow (chunkIn s b k) i)
   pub routes : (r : ℕ) → r < s .«route_count» → ReadRange (parameterOf (mixerIn s b k .routes) r .«raw_value» .0)
   pub main : ReadWithin (chunkIn s b k .main)
@@ -72,6 +77,7 @@ values file samples output e b k =
     record {
       volumes = λ t h. read-within (trackRow (chunkIn s b k) t .volume) (c .volumes t h);
       fades = λ t h. read-within (trackRow (chunkIn s b k) t .fade) (c .fades t h);
+      placings = c .placings;
       sends = λ i h. read-within (sendRow (chunkIn s b k) i) (c .sendLevels i h);
       routes = λ r h. value→read _ (routes-in s ok b k r h .value);
       main = read-within (chunkIn s b k .main) (c .mainLevel);
@@ -79,13 +85,21 @@ values file samples output e b k =
 
 -- ---- the same in question 11's own words: at every frame that mixing reads, the amplitude routine's number is 0
 
-pub read-given : (x : Float) → ReadRange x → amplitudeAnswer x .number ≡ 0
+admitted-given : (x : Float) → T (admitted x) → amplitudeAnswer x .number ≡ 0
 unfolding amplitudeAnswer
-read-given x h = go (admitted x) (read-admitted x h)
+admitted-given x h = go (admitted x) h
   where
     go : (b : Bool) → T b → cond {A = Answer} b (record { number = 0; value = some (amplitude x) }) (record { number = 11; value = none }) .number ≡ 0
     go true t = refl
     go false t = absurd t
+
+pub read-given : (x : Float) → ReadRange x → amplitudeAnswer x .number ≡ 0
+read-given x h = admitted-given x (read-admitted x h)
+
+given-of : (p : Placing) → PlacingIn p → GivenOf p
+given-of Plain h = tt
+given-of Unheard h = tt
+given-of (Spatial level) h = admitted-given (level .0) (placing-admitted level h)
 
 given-at : (s : Scene) (ok : SceneOk s) (k : ℕ) (l : Level) → ReadWithin l → GivenAt (chunkFrames (s .head) k) l
 given-at s ok k l h i p = read-given _ (h (amountAt i (chunkFrames (s .head) k)) (amount-is i (chunkFrames (s .head) k) p (few-frames s k ok)))
@@ -98,6 +112,7 @@ never-eleven file samples output e b k =
     record {
       volumes = λ t h. given-at s ok k _ (v .volumes t h);
       fades = λ t h. given-at s ok k _ (v .fades t h);
+      placings = λ t h. given-of (trackRow (chunkIn s b k) t .placing) (v .placings t h);
       sends = λ i h. given-at s ok k _ (v .sends i h);
       routes = λ r h. read-given _ (v .routes r h);
       main = given-at s ok k _ (v .main);

@@ -19,6 +19,8 @@ use Rattle.tween.specs.declared.tween.Easing.{Easing}
 use Rattle.tween.specs.declared.tween.Easing.the-variants.{Linear, InPowi, OutPowi, InOutPowi}
 use Rattle.tween.specs.declared.start_time.StartTime.{StartTime}
 use Rattle.tween.specs.declared.start_time.StartTime.the-variants.{Immediate, Delayed, ClockTime}
+use Rattle.spatial.specs.declared.spatial.Position.{Position}
+use Rattle.spatial.specs.declared.spatial.Distances.{Distances}
 use Rattle.scene.specs.declared.scene.OrderKind.{OrderKind}
 use Rattle.scene.specs.declared.scene.Head.{Head}
 use Rattle.scene.specs.declared.scene.ClockLine.{ClockLine}
@@ -27,10 +29,10 @@ use Rattle.scene.specs.declared.scene.SendLine.{SendLine}
 use Rattle.scene.specs.declared.scene.RouteLine.{RouteLine}
 use Rattle.scene.specs.declared.scene.SoundLine.{SoundLine}
 use Rattle.scene.specs.declared.scene.OrderLine.{OrderLine}
-use Rattle.scene_tables.specs.Tables.{raised, natural, tableAt, width, head, clocks, tracks, sends, routes, sounds, orders, headColumn, clockColumn, trackColumn, sendColumn, routeColumn, soundColumn, orderColumn}
+use Rattle.scene_tables.specs.Tables.{raised, natural, tableAt, width, head, clocks, tracks, sends, routes, sounds, listener, placings, orders, headColumn, clockColumn, trackColumn, sendColumn, routeColumn, soundColumn, listenerColumn, placingColumn, orderColumn}
 use Rattle.scene_questions.specs.Questions.{field, speedOf}
 use Rattle.scene_questions.specs.Places.{cut, rowsIn}
-use Rattle.scene.specs.Scene.{volumeOf, kindOf, clockTimeOf, startTimeOf, easingOf, headOf, clockOf, trackOf, sendOf, routeOf, soundOf, orderOf, filled}
+use Rattle.scene.specs.Scene.{thousandths, volumeOf, kindOf, clockTimeOf, startTimeOf, easingOf, headOf, clockOf, trackOf, sendOf, routeOf, soundOf, orderOf, listenerOf, positionOf, distancesOf, filled}
 use Rattle.scene_questions.proofs.laws.Places.{rows-length, row-at}
 
 -- ---- a negative number is its magnitude, negated
@@ -52,7 +54,7 @@ round-neg : (f : Format) (num den : ℕ) → neg (round f false num den) ≡ rou
 unfolding round
 round-neg f num den = units-neg f _ _
 
--- ---- volumes
+-- ---- thousandths
 
 thousand32 : ofBits binary32 1148846080 ≡ ofInt binary32 (pos 1000)
 unfolding ofBits ofInt
@@ -67,15 +69,11 @@ unfolding ofInt
 int-neg f n m e = rw e (round-neg f (suc m) 1)
 
 module _ (z : ℕ) (x : Float) where
-  pub volume-below : z < 2147483648 → x ≡ ofInt binary32 (pos (2147483648 - z)) → _≡_ {A = Decibels} (record { 0 = div binary32 (neg x) (ofBits binary32 1148846080) }) (volumeOf z)
-  unfolding volumeOf
-  volume-below h e =
-      ap (λ (y : Float). record { 0 = y })
-      (rw (e, thousand32, lt-leb 2147483648 z h, int-neg binary32 (2147483648 - z) (2147483648 - suc z) (omega arith)))
+  pub thousandths-below : z < 2147483648 → x ≡ ofInt binary32 (pos (2147483648 - z)) → div binary32 (neg x) (ofBits binary32 1148846080) ≡ thousandths z
+  thousandths-below h e = rw (e, thousand32, lt-leb 2147483648 z h, int-neg binary32 (2147483648 - z) (2147483648 - suc z) (omega arith))
 
-  pub volume-above : 2147483648 ≤ z → x ≡ ofInt binary32 (pos (z - 2147483648)) → _≡_ {A = Decibels} (record { 0 = div binary32 x (ofBits binary32 1148846080) }) (volumeOf z)
-  unfolding volumeOf
-  volume-above h e = ap (λ (y : Float). record { 0 = y }) (rw (e, thousand32, le-leb 2147483648 z h))
+  pub thousandths-above : 2147483648 ≤ z → x ≡ ofInt binary32 (pos (z - 2147483648)) → div binary32 x (ofBits binary32 1148846080) ≡ thousandths z
+  thousandths-above h e = rw (e, thousand32, le-leb 2147483648 z h)
 
 -- ---- starts and easings
 
@@ -162,6 +160,24 @@ pub order-is : (v : List ℕ) (a x0 x1 x2 x3 x4 x5 x6 x7 x8 x9 : ℕ) (r0 : ℕ)
 unfolding orderOf
 order-is v a x0 x1 x2 x3 x4 x5 x6 x7 x8 x9 r0 r1 r2 r3 r4 r5 r6 e0 e1 e2 e3 e4 e5 e6 e7 e8 e9 p0 p1 p2 p3 p4 p5 p6 =
     rw (field-at v a (width (tableAt orders)) (orderColumn .block) (omega arith), field-at v a (width (tableAt orders)) (orderColumn .kind) (omega arith), field-at v a (width (tableAt orders)) (orderColumn .index) (omega arith), field-at v a (width (tableAt orders)) (orderColumn .volume) (omega arith), field-at v a (width (tableAt orders)) (orderColumn .clock) (omega arith), field-at v a (width (tableAt orders)) (orderColumn .when) (omega arith), field-at v a (width (tableAt orders)) (orderColumn .part) (omega arith), field-at v a (width (tableAt orders)) (orderColumn .millis) (omega arith), field-at v a (width (tableAt orders)) (orderColumn .easing) (omega arith), field-at v a (width (tableAt orders)) (orderColumn .power) (omega arith), ← e0, ← e1, ← e2, ← e3, ← e4, ← e5, ← e6, ← e7, ← e8, ← e9, p0, p1, p2, p3, p4, p5, p6)
+
+pub listener-is : (v : List ℕ) (a x0 x1 x2 : ℕ) (r0 r1 r2 : Float) → x0 ≡ getD v (a + listenerColumn .x) 0 → x1 ≡ getD v (a + listenerColumn .y) 0 → x2 ≡ getD v (a + listenerColumn .z) 0 → r0 ≡ thousandths x0 → r1 ≡ thousandths x1 → r2 ≡ thousandths x2
+    → _≡_ {A = Position} (record { x = r0; y = r1; z = r2 }) (listenerOf (take (width (tableAt listener)) (drop a v)))
+unfolding listenerOf
+listener-is v a x0 x1 x2 r0 r1 r2 e0 e1 e2 p0 p1 p2 =
+    rw (field-at v a (width (tableAt listener)) (listenerColumn .x) (omega arith), field-at v a (width (tableAt listener)) (listenerColumn .y) (omega arith), field-at v a (width (tableAt listener)) (listenerColumn .z) (omega arith), ← e0, ← e1, ← e2, p0, p1, p2)
+
+pub position-is : (v : List ℕ) (a x0 x1 x2 : ℕ) (r0 r1 r2 : Float) → x0 ≡ getD v (a + placingColumn .x) 0 → x1 ≡ getD v (a + placingColumn .y) 0 → x2 ≡ getD v (a + placingColumn .z) 0 → r0 ≡ thousandths x0 → r1 ≡ thousandths x1 → r2 ≡ thousandths x2
+    → _≡_ {A = Position} (record { x = r0; y = r1; z = r2 }) (positionOf (take (width (tableAt placings)) (drop a v)))
+unfolding positionOf
+position-is v a x0 x1 x2 r0 r1 r2 e0 e1 e2 p0 p1 p2 =
+    rw (field-at v a (width (tableAt placings)) (placingColumn .x) (omega arith), field-at v a (width (tableAt placings)) (placingColumn .y) (omega arith), field-at v a (width (tableAt placings)) (placingColumn .z) (omega arith), ← e0, ← e1, ← e2, p0, p1, p2)
+
+pub distances-is : (v : List ℕ) (a x0 x1 : ℕ) (r0 r1 : Float) → x0 ≡ getD v (a + placingColumn .near) 0 → x1 ≡ getD v (a + placingColumn .far) 0 → r0 ≡ thousandths x0 → r1 ≡ thousandths x1
+    → _≡_ {A = Distances} (record { «min_distance» = r0; «max_distance» = r1 }) (distancesOf (take (width (tableAt placings)) (drop a v)))
+unfolding distancesOf
+distances-is v a x0 x1 r0 r1 e0 e1 p0 p1 =
+    rw (field-at v a (width (tableAt placings)) (placingColumn .near) (omega arith), field-at v a (width (tableAt placings)) (placingColumn .far) (omega arith), ← e0, ← e1, p0, p1)
 
 -- ---- a table of lines that is being filled
 

@@ -11,24 +11,26 @@ use lib.Dec.{leb, ltb}
 use lib.ListN.{length, getD, take, drop, take-append-drop, List·getD-append, List·getD-eq-default}
 use lib.Seq.{getD-append-add, drop-cons, getD-take}
 use Rattle.limits.specs.Limits.{clockLines, trackLines, sendLines, routeLines, soundLines, orderLines}
+use Rattle.laws.specs.Loop.{upto}
 use Rattle.laws.proofs.laws.Choice.{and-left, and-right, and-same}
 use Rattle.scene_tables.specs.declared.tables.Field.{Field}
 use Rattle.scene_tables.specs.declared.tables.LineRule.{LineRule}
-use Rattle.scene_tables.specs.declared.tables.LineRule.the-variants.{Plain, Speed, Order}
+use Rattle.scene_tables.specs.declared.tables.LineRule.the-variants.{Plain, Speed, Apart, Order}
 use Rattle.scene.specs.declared.scene.Head.{Head}
 use Rattle.scene.specs.declared.scene.ClockLine.{ClockLine}
 use Rattle.scene.specs.declared.scene.TrackLine.{TrackLine}
 use Rattle.scene.specs.declared.scene.SendLine.{SendLine}
 use Rattle.scene.specs.declared.scene.RouteLine.{RouteLine}
 use Rattle.scene.specs.declared.scene.SoundLine.{SoundLine}
+use Rattle.scene.specs.declared.scene.TrackPlacing.{TrackPlacing}
 use Rattle.scene.specs.declared.scene.OrderLine.{OrderLine}
 use Rattle.scene.specs.declared.scene.Scene.{Scene}
 use Rattle.scene_tables.specs.Bytes.{every, all}
-use Rattle.scene_tables.specs.Tables.{Table, tables, noTable, noField, width, tableAt, head, clocks, tracks, sends, routes, sounds, orders, headColumn, clockColumn, orderColumn}
+use Rattle.scene_tables.specs.Tables.{Table, tables, noTable, noField, width, tableAt, head, clocks, tracks, sends, routes, sounds, placings, orders, headColumn, clockColumn, placingColumn, orderColumn}
 use Rattle.scene_tables.specs.InCode.{allFields}
-use Rattle.scene_questions.specs.Questions.{Tables, rowsAt, linesAt, cell, field, headCell, linesOk, everyLine, inRange, namesLine, lineInRange, lineNamesLine, rangesOk, referencesOk, orderFits}
+use Rattle.scene_questions.specs.Questions.{Tables, rowsAt, linesAt, cell, field, headCell, linesOk, everyLine, inRange, namesLine, lineInRange, lineNamesLine, rangesOk, referencesOk, orderFits, distancesApart}
 use Rattle.scene_questions.specs.Places.{rowsIn, placedFrom, countAt, countsFit, fieldPasses, linePasses, fieldsPass, tablePasses, tablesPass, placesMost, Low, stored}
-use Rattle.scene.specs.Scene.{headOf, clockOf, trackOf, sendOf, routeOf, soundOf, orderOf, filled, sceneOf}
+use Rattle.scene.specs.Scene.{headOf, clockOf, trackOf, sendOf, routeOf, soundOf, orderOf, allPlain, placingsOf, filled, sceneOf}
 use Rattle.scene_tables.proofs.laws.Every.{all-at, every-at, every-same}
 use Rattle.scene_questions.proofs.laws.Places.{rows-length, row-at, cell-at, cell-beyond}
 use Rattle.scene_rules.proofs.laws.Passes.{fields-join}
@@ -86,6 +88,7 @@ module _ (starts counts v : List ℕ) where
 needed : LineRule → ℕ
 needed Plain = 0
 needed Speed = width (tableAt clocks)
+needed Apart = width (tableAt placings)
 needed Order = width (tableAt orders)
 
 field-cut : (w : ℕ) (l : List ℕ) (j : ℕ) → j < w → field (take w l) j ≡ field l j
@@ -93,12 +96,14 @@ field-cut w l j h = getD-take w l j 0 h
 
 line-cut : (references : Bool) (lines : ℕ → ℕ) (blocks : ℕ) (rule : LineRule) (w : ℕ) (l : List ℕ) → needed rule ≤ w
     → linePasses references lines blocks rule (take w l) ≡ linePasses references lines blocks rule l
-unfolding linePasses lineNamesLine lineInRange needed orderFits
+unfolding linePasses lineNamesLine lineInRange needed orderFits distancesApart
 line-cut true lines blocks Plain w l h = refl
 line-cut true lines blocks Speed w l h = refl
+line-cut true lines blocks Apart w l h = refl
 line-cut true lines blocks Order w l h = rw (field-cut w l (orderColumn .kind) (omega arith), field-cut w l (orderColumn .index) (omega arith))
 line-cut false lines blocks Plain w l h = refl
 line-cut false lines blocks Speed w l h = rw (field-cut w l (clockColumn .unit) (omega arith), field-cut w l (clockColumn .speed) (omega arith))
+line-cut false lines blocks Apart w l h = rw (field-cut w l (placingColumn .near) (omega arith), field-cut w l (placingColumn .far) (omega arith))
 line-cut false lines blocks Order w l h =
     rw (field-cut w l (orderColumn .block) (omega arith), field-cut w l (orderColumn .kind) (omega arith), field-cut w l (orderColumn .volume) (omega arith), field-cut w l (orderColumn .clock) (omega arith), field-cut w l (orderColumn .when) (omega arith), field-cut w l (orderColumn .part) (omega arith), field-cut w l (orderColumn .millis) (omega arith), field-cut w l (orderColumn .easing) (omega arith), field-cut w l (orderColumn .power) (omega arith))
 
@@ -219,17 +224,18 @@ module _ (starts counts v : List ℕ) where
   abbrev placed : ℕ → List (List ℕ)
   placed t = rowsIn v (getD starts t 0) (width (tableAt t)) (getD counts t 0)
 
-  scene-by : (h : Head) (r1 : List ClockLine) (r2 : List TrackLine) (r3 : List SendLine) (r4 : List RouteLine) (r5 : List SoundLine) (r6 : List OrderLine)
+  scene-by : (h : Head) (r1 : List ClockLine) (r2 : List TrackLine) (r3 : List SendLine) (r4 : List RouteLine) (r5 : List SoundLine) (rp : List TrackPlacing) (r6 : List OrderLine)
       → h ≡ headOf (getD (placed head) 0 [])
       → r1 ≡ filled clockLines clockOf (placed clocks)
       → r2 ≡ filled trackLines trackOf (placed tracks)
       → r3 ≡ filled sendLines sendOf (placed sends)
       → r4 ≡ filled routeLines routeOf (placed routes)
       → r5 ≡ filled soundLines soundOf (placed sounds)
+      → rp ≡ placingsOf (stored starts counts v)
       → r6 ≡ filled orderLines orderOf (placed orders)
-      → _≡_ {A = Scene} (record { head = h; «clock_count» = getD counts clocks 0; clocks = r1; «track_count» = getD counts tracks 0; tracks = r2; «send_count» = getD counts sends 0; sends = r3; «route_count» = getD counts routes 0; routes = r4; «sound_count» = getD counts sounds 0; sounds = r5; «order_count» = getD counts orders 0; orders = r6 }) (sceneOf (stored starts counts v))
+      → _≡_ {A = Scene} (record { head = h; «clock_count» = getD counts clocks 0; clocks = r1; «track_count» = getD counts tracks 0; tracks = r2; «send_count» = getD counts sends 0; sends = r3; «route_count» = getD counts routes 0; routes = r4; «sound_count» = getD counts sounds 0; sounds = r5; placings = rp; «order_count» = getD counts orders 0; orders = r6 }) (sceneOf (stored starts counts v))
   unfolding sceneOf
-  scene-by h r1 r2 r3 r4 r5 r6 e0 e1 e2 e3 e4 e5 e6 =
+  scene-by h r1 r2 r3 r4 r5 rp r6 e0 e1 e2 e3 e4 e5 ep e6 =
       let rows : (t : ℕ) → t < length tables → rowsAt (stored starts counts v) t ≡ placed t = rows-placed starts counts v in
       let lines : (t : ℕ) → t < length tables → getD counts t 0 ≡ linesAt (stored starts counts v) t = λ t k. sym (lines-placed starts counts v t k) in
       same (e0 ∙ ap (λ (R : List (List ℕ)). headOf (getD R 0 [])) (sym (rows head (omega arith))))
@@ -238,27 +244,29 @@ module _ (starts counts v : List ℕ) where
       (lines sends (omega arith)) (e3 ∙ ap (filled sendLines sendOf) (sym (rows sends (omega arith))))
       (lines routes (omega arith)) (e4 ∙ ap (filled routeLines routeOf) (sym (rows routes (omega arith))))
       (lines sounds (omega arith)) (e5 ∙ ap (filled soundLines soundOf) (sym (rows sounds (omega arith))))
+      ep
       (lines orders (omega arith)) (e6 ∙ ap (filled orderLines orderOf) (sym (rows orders (omega arith))))
     where
-      same : {h h' : Head} {n1 n1' : ℕ} {r1 r1' : List ClockLine} {n2 n2' : ℕ} {r2 r2' : List TrackLine} {n3 n3' : ℕ} {r3 r3' : List SendLine} {n4 n4' : ℕ} {r4 r4' : List RouteLine} {n5 n5' : ℕ} {r5 r5' : List SoundLine} {n6 n6' : ℕ} {r6 r6' : List OrderLine}
-          → h ≡ h' → n1 ≡ n1' → r1 ≡ r1' → n2 ≡ n2' → r2 ≡ r2' → n3 ≡ n3' → r3 ≡ r3' → n4 ≡ n4' → r4 ≡ r4' → n5 ≡ n5' → r5 ≡ r5' → n6 ≡ n6' → r6 ≡ r6'
-          → _≡_ {A = Scene} (record { head = h; «clock_count» = n1; clocks = r1; «track_count» = n2; tracks = r2; «send_count» = n3; sends = r3; «route_count» = n4; routes = r4; «sound_count» = n5; sounds = r5; «order_count» = n6; orders = r6 }) (record { head = h'; «clock_count» = n1'; clocks = r1'; «track_count» = n2'; tracks = r2'; «send_count» = n3'; sends = r3'; «route_count» = n4'; routes = r4'; «sound_count» = n5'; sounds = r5'; «order_count» = n6'; orders = r6' })
-      same p0 q1 p1 q2 p2 q3 p3 q4 p4 q5 p5 q6 p6 = cc
+      same : {h h' : Head} {n1 n1' : ℕ} {r1 r1' : List ClockLine} {n2 n2' : ℕ} {r2 r2' : List TrackLine} {n3 n3' : ℕ} {r3 r3' : List SendLine} {n4 n4' : ℕ} {r4 r4' : List RouteLine} {n5 n5' : ℕ} {r5 r5' : List SoundLine} {rp rp' : List TrackPlacing} {n6 n6' : ℕ} {r6 r6' : List OrderLine}
+          → h ≡ h' → n1 ≡ n1' → r1 ≡ r1' → n2 ≡ n2' → r2 ≡ r2' → n3 ≡ n3' → r3 ≡ r3' → n4 ≡ n4' → r4 ≡ r4' → n5 ≡ n5' → r5 ≡ r5' → rp ≡ rp' → n6 ≡ n6' → r6 ≡ r6'
+          → _≡_ {A = Scene} (record { head = h; «clock_count» = n1; clocks = r1; «track_count» = n2; tracks = r2; «send_count» = n3; sends = r3; «route_count» = n4; routes = r4; «sound_count» = n5; sounds = r5; placings = rp; «order_count» = n6; orders = r6 }) (record { head = h'; «clock_count» = n1'; clocks = r1'; «track_count» = n2'; tracks = r2'; «send_count» = n3'; sends = r3'; «route_count» = n4'; routes = r4'; «sound_count» = n5'; sounds = r5'; placings = rp'; «order_count» = n6'; orders = r6' })
+      same p0 q1 p1 q2 p2 q3 p3 q4 p4 q5 p5 pp q6 p6 = cc
 
   module _ (fit : countsFit counts ≡ true) where
-    pub scene-is : (h : Head) (r1 : List ClockLine) (r2 : List TrackLine) (r3 : List SendLine) (r4 : List RouteLine) (r5 : List SoundLine) (r6 : List OrderLine)
+    pub scene-is : (h : Head) (r1 : List ClockLine) (r2 : List TrackLine) (r3 : List SendLine) (r4 : List RouteLine) (r5 : List SoundLine) (rp : List TrackPlacing) (r6 : List OrderLine)
         → h ≡ headOf (take (width (tableAt head)) (drop (getD starts head 0) v))
         → r1 ≡ filled clockLines clockOf (placed clocks)
         → r2 ≡ filled trackLines trackOf (placed tracks)
         → r3 ≡ filled sendLines sendOf (placed sends)
         → r4 ≡ filled routeLines routeOf (placed routes)
         → r5 ≡ filled soundLines soundOf (placed sounds)
+        → rp ≡ placingsOf (stored starts counts v)
         → r6 ≡ filled orderLines orderOf (placed orders)
-        → _≡_ {A = Scene} (record { head = h; «clock_count» = getD counts clocks 0; clocks = r1; «track_count» = getD counts tracks 0; tracks = r2; «send_count» = getD counts sends 0; sends = r3; «route_count» = getD counts routes 0; routes = r4; «sound_count» = getD counts sounds 0; sounds = r5; «order_count» = getD counts orders 0; orders = r6 }) (sceneOf (stored starts counts v))
-    scene-is h r1 r2 r3 r4 r5 r6 e0 =
+        → _≡_ {A = Scene} (record { head = h; «clock_count» = getD counts clocks 0; clocks = r1; «track_count» = getD counts tracks 0; tracks = r2; «send_count» = getD counts sends 0; sends = r3; «route_count» = getD counts routes 0; routes = r4; «sound_count» = getD counts sounds 0; sounds = r5; placings = rp; «order_count» = getD counts orders 0; orders = r6 }) (sceneOf (stored starts counts v))
+    scene-is h r1 r2 r3 r4 r5 rp r6 e0 =
         let k : 0 < getD counts head 0 = count-fits starts counts v fit head (omega arith) .0 in
         let z : getD starts head 0 + 0 * width (tableAt head) ≡ getD starts head 0 = omega arith in
-        scene-by h r1 r2 r3 r4 r5 r6 (rw (row-at v (getD starts head 0) (width (tableAt head)) (getD counts head 0) 0 k, z) e0)
+        scene-by h r1 r2 r3 r4 r5 rp r6 (rw (row-at v (getD starts head 0) (width (tableAt head)) (getD counts head 0) 0 k, z) e0)
 
 -- no line at all
 pub no-scene-is : (h : Head) (r1 : List ClockLine) (r2 : List TrackLine) (r3 : List SendLine) (r4 : List RouteLine) (r5 : List SoundLine) (r6 : List OrderLine) (v : List ℕ) (s : ℕ)
@@ -269,7 +277,7 @@ pub no-scene-is : (h : Head) (r1 : List ClockLine) (r2 : List TrackLine) (r3 : L
     → r4 ≡ filled routeLines routeOf (rowsIn v s (width (tableAt routes)) 0)
     → r5 ≡ filled soundLines soundOf (rowsIn v s (width (tableAt sounds)) 0)
     → r6 ≡ filled orderLines orderOf (rowsIn v s (width (tableAt orders)) 0)
-    → _≡_ {A = Scene} (record { head = h; «clock_count» = 0; clocks = r1; «track_count» = 0; tracks = r2; «send_count» = 0; sends = r3; «route_count» = 0; routes = r4; «sound_count» = 0; sounds = r5; «order_count» = 0; orders = r6 }) (sceneOf [])
-unfolding sceneOf
+    → _≡_ {A = Scene} (record { head = h; «clock_count» = 0; clocks = r1; «track_count» = 0; tracks = r2; «send_count» = 0; sends = r3; «route_count» = 0; routes = r4; «sound_count» = 0; sounds = r5; placings = allPlain; «order_count» = 0; orders = r6 }) (sceneOf [])
+unfolding sceneOf placingsOf upto
 no-scene-is h r1 r2 r3 r4 r5 r6 v s e0 e1 e2 e3 e4 e5 e6 =
     rw (e0, beyond-end v (width (tableAt head)), e1, fill-none clockLines clockOf v s (width (tableAt clocks)), e2, fill-none trackLines trackOf v s (width (tableAt tracks)), e3, fill-none sendLines sendOf v s (width (tableAt sends)), e4, fill-none routeLines routeOf v s (width (tableAt routes)), e5, fill-none soundLines soundOf v s (width (tableAt sounds)), e6, fill-none orderLines orderOf v s (width (tableAt orders)))

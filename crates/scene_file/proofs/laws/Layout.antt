@@ -102,7 +102,7 @@ module _ (file : List ℕ) (from : ℕ) (names : List ℕ) (width at : ℕ) (bef
 
 -- how many bytes the names lines have
 abbrev namesBytes : ℕ
-namesBytes = 182
+namesBytes = 209
 
 -- a line with no line feed in it ends at the one after it
 name-length : (n l : List ℕ) → all (λ b. not (eqb b lineFeed)) n ≡ true → positionOf lineFeed (n ++ lineFeed ∷ l) ≡ length n

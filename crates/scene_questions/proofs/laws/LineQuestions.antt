@@ -11,8 +11,8 @@ use lib.ListN.{length, getD}
 use lib.Ieee.{Float, nan}
 use Rattle.limits.specs.Limits.{trackDepth}
 use Rattle.scene_tables.specs.Bytes.{every}
-use Rattle.scene_tables.specs.Tables.{natural, tableAt, width, tracks, routes, sounds, trackColumn, routeColumn, soundColumn}
-use Rattle.scene_questions.specs.Questions.{parentOf, withinDepth, depthsFit, samePair, newPair, routesFit, cell, soundFits, soundsFit, sampleOk, samplesOk}
+use Rattle.scene_tables.specs.Tables.{natural, tableAt, width, tracks, routes, sounds, placings, trackColumn, routeColumn, soundColumn, placingColumn}
+use Rattle.scene_questions.specs.Questions.{parentOf, withinDepth, depthsFit, samePair, newPair, newPlacing, cell, soundFits, soundsFit, sampleOk, samplesOk}
 use Rattle.scene_questions.specs.Places.{rowsIn}
 use Rattle.scene_tables.proofs.laws.Every.{every-none, every-passed, every-failed, every-done}
 use Rattle.scene_questions.proofs.laws.Places.{rows-length, cell-at, cell-beyond}
@@ -120,20 +120,51 @@ module _ (rows : List (List ℕ)) (i : ℕ) where
   unfolding newPair pairTest
   pairs-done k h q p = every-done i pairTest k h q p
 
-module _ (v : List ℕ) (s n : ℕ) where
-  pub routes-none : every 0 (newPair (rowsIn v s (width (tableAt routes)) n)) ≡ true
-  routes-none = every-none (newPair (rowsIn v s (width (tableAt routes)) n))
+-- ---- 7. placings
 
-  pub routes-failed : (i : ℕ) (b : Bool) → i < n → b ≡ newPair (rowsIn v s (width (tableAt routes)) n) i → not b ≡ true → false ≡ routesFit (rowsIn v s (width (tableAt routes)) n)
-  unfolding routesFit
-  routes-failed i b h e q = rw (rows-length v s (width (tableAt routes)) n) (every-failed n (newPair (rowsIn v s (width (tableAt routes)) n)) i h (sym e ∙ not-true b q))
+module _ (v : List ℕ) (s n i : ℕ) where
+  abbrev placed : List (List ℕ)
+  placed = rowsIn v s (width (tableAt placings)) n
 
-  pub routes-passed : (i : ℕ) (b : Bool) → b ≡ newPair (rowsIn v s (width (tableAt routes)) n) i → not b ≡ false → every i (newPair (rowsIn v s (width (tableAt routes)) n)) ≡ true → every (i + 1) (newPair (rowsIn v s (width (tableAt routes)) n)) ≡ true
-  routes-passed i b e q p = every-passed i (newPair (rowsIn v s (width (tableAt routes)) n)) p (sym e ∙ not-false b q)
+  unfoldable pub placingTest : ℕ → Bool
+  placingTest k = not (eqb (cell placed i (placingColumn .track)) (cell placed k (placingColumn .track)))
 
-  pub routes-done : (i : ℕ) → n ≤ i → i ≤ n → every i (newPair (rowsIn v s (width (tableAt routes)) n)) ≡ true → true ≡ routesFit (rowsIn v s (width (tableAt routes)) n)
-  unfolding routesFit
-  routes-done i h k q = rw (rows-length v s (width (tableAt routes)) n) (every-done n (newPair (rowsIn v s (width (tableAt routes)) n)) i h k q)
+  pub placing-none : every 0 placingTest ≡ true
+  placing-none = every-none placingTest
+
+  module _ (k x y : ℕ) (hi : i < n) (hk : k < i) (isx : x ≡ getD v (s + i * width (tableAt placings) + placingColumn .track) 0) (isy : y ≡ getD v (s + k * width (tableAt placings) + placingColumn .track) 0) where
+    tracks-are : placingTest k ≡ not (eqb x y)
+    unfolding placingTest
+    tracks-are = rw (cell-at v s (width (tableAt placings)) n i (placingColumn .track) hi (omega arith), cell-at v s (width (tableAt placings)) n k (placingColumn .track) (omega arith) (omega arith), ← isx, ← isy)
+
+    pub placing-same : x ≡ y → false ≡ newPlacing placed i
+    unfolding newPlacing placingTest
+    placing-same e = every-failed i placingTest k hk (tracks-are ∙ ap not (eq-eqb x y e))
+
+    pub placing-differs : (x ≡ y → ⊥) → every k placingTest ≡ true → every (k + 1) placingTest ≡ true
+    placing-differs e p = every-passed k placingTest p (tracks-are ∙ ap not (ne-eqb x y e))
+
+  pub placing-done : (k : ℕ) → i ≤ k → k ≤ i → every k placingTest ≡ true → true ≡ newPlacing placed i
+  unfolding newPlacing placingTest
+  placing-done k h q p = every-done i placingTest k h q p
+
+-- ---- 7. every line of a table, by a test of it among the lines
+
+module _ (test : List (List ℕ) → ℕ → Bool) (v : List ℕ) (s w n : ℕ) where
+  abbrev rows : List (List ℕ)
+  rows = rowsIn v s w n
+
+  pub rows-none : every 0 (test rows) ≡ true
+  rows-none = every-none (test rows)
+
+  pub rows-failed : (i : ℕ) (b : Bool) → i < n → b ≡ test rows i → not b ≡ true → false ≡ every (length rows) (test rows)
+  rows-failed i b h e q = rw (rows-length v s w n) (every-failed n (test rows) i h (sym e ∙ not-true b q))
+
+  pub rows-passed : (i : ℕ) (b : Bool) → b ≡ test rows i → not b ≡ false → every i (test rows) ≡ true → every (i + 1) (test rows) ≡ true
+  rows-passed i b e q p = every-passed i (test rows) p (sym e ∙ not-false b q)
+
+  pub rows-done : (i : ℕ) → n ≤ i → i ≤ n → every i (test rows) ≡ true → true ≡ every (length rows) (test rows)
+  rows-done i h k q = rw (rows-length v s w n) (every-done n (test rows) i h k q)
 
 -- ---- 8. sounds
 

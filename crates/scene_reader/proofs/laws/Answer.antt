@@ -11,14 +11,16 @@ use lib.ListN.{length, getD, drop, List·getD-map}
 use Rattle.recordings.specs.Recordings.{Recordings, fromHouse, fromVisitor}
 use Rattle.limits.specs.Limits.{fileBytes}
 use Rattle.scene_file.specs.declared.grammar.Layout.{Layout}
-use Rattle.scene_tables.specs.Tables.{tables, tableAt, width, tracks, routes, sounds, headColumn}
+use Rattle.scene_tables.specs.Tables.{tables, tableAt, width, tracks, routes, sounds, placings, headColumn}
 use Rattle.scene_file.specs.Grammar.{tablesOf}
 use Rattle.scene_file.specs.Readings.{LayoutRead}
 use Rattle.scene.specs.declared.scene.Scene.{Scene}
 use Rattle.scene_reader.specs.declared.answer.Answer.{Answer}
-use Rattle.scene_questions.specs.Questions.{Tables, Question, headCell, sizeOk, spelledOk, depthsFit, routesFit, soundsFit, samplesOk, firstNo, tableQuestions}
+use Rattle.scene_questions.specs.Questions.{Tables, Question, headCell, sizeOk, spelledOk, depthsFit, routesFit, placingsFit, soundsFit, samplesOk, firstNo, tableQuestions}
 use Rattle.scene_questions.specs.Places.{rowsIn, countAt, countsFit, tablesPass, stored, placesMost, Low, questionAt}
 use Rattle.scene.specs.Scene.{sceneOf}
+use Rattle.scene.specs.Placed.{PlacingsOk}
+use Rattle.accepted.proofs.laws.Placed.{placings-ok}
 use Rattle.scene_reader.specs.Answer.{also, questionsOfTables, readTableQuestions, readQuestions, refusal, answered}
 use Rattle.scene_questions.proofs.laws.FileSize.{size-small}
 use Rattle.scene_questions.proofs.laws.FirstNo.{numbered, asked-yes, asked-no, asked-all, yes-at}
@@ -37,7 +39,7 @@ by-blocks starts counts v b z r e h = rw (← e) h
 
 -- their numbers
 abbrev pub tableNumbers : List ℕ
-tableNumbers = 3 ∷ 4 ∷ 5 ∷ 6 ∷ 7 ∷ 8 ∷ 8 ∷ 9 ∷ 9 ∷ []
+tableNumbers = 3 ∷ 4 ∷ 5 ∷ 6 ∷ 7 ∷ 7 ∷ 8 ∷ 8 ∷ 9 ∷ 9 ∷ []
 
 module _ (starts counts v : List ℕ) (samples : Recordings) (whole visitorWhole : Bool) where
   abbrev pub asked : List Question
@@ -55,6 +57,7 @@ module _ (starts counts v : List ℕ) (samples : Recordings) (whole visitorWhole
       ∷ (5, tablesPass true (countAt counts) 0 starts counts v)
       ∷ (6, depthsFit (placed tracks))
       ∷ (7, routesFit (placed routes))
+      ∷ (7, placingsFit (placed placings))
       ∷ (8, whole && soundsFit (placed sounds) fromHouse (samples .house))
       ∷ (8, visitorWhole && soundsFit (placed sounds) fromVisitor (samples .visitor))
       ∷ (9, samplesOk (samples .house))
@@ -64,7 +67,7 @@ module _ (starts counts v : List ℕ) (samples : Recordings) (whole visitorWhole
   asked-places : asked ≡ byPlaces
   unfolding also readTableQuestions tableQuestions byPlaces
   asked-places =
-      rw (counts-are starts counts v, ranges-are starts counts v (countAt counts), references-are starts counts v 0, rows-placed starts counts v tracks (omega arith), rows-placed starts counts v routes (omega arith), rows-placed starts counts v sounds (omega arith))
+      rw (counts-are starts counts v, ranges-are starts counts v (countAt counts), references-are starts counts v 0, rows-placed starts counts v tracks (omega arith), rows-placed starts counts v routes (omega arith), rows-placed starts counts v placings (omega arith), rows-placed starts counts v sounds (omega arith))
 
   -- a question, by its place
   pub passes-at : (k place : ℕ) (r : Bool) → place ≡ k → r ≡ questionAt byPlaces k .1 → r ≡ questionAt asked place .1
@@ -137,6 +140,14 @@ module _ (file : List ℕ) (samples : Recordings) (whole visitorWhole : Bool) wh
             let q = asked-places (l .starts) (l .counts) after samples whole visitorWhole in
             sym (ap (λ (p : List Question). questionAt p 0 .1) q)
             ∙ yes-at (asked (l .starts) (l .counts) after samples whole visitorWhole) (asked-numbered (l .starts) (l .counts) after samples whole visitorWhole) (sym isn ∙ h) 0
+
+        -- and 4 and 5 did
+        pub placings-known : n ≡ 0 → PlacingsOk (stored (l .starts) (l .counts) after)
+        unfolding also readTableQuestions tableQuestions
+        placings-known h =
+            let yes : (i : ℕ) → questionAt (asked (l .starts) (l .counts) after samples whole visitorWhole) i .1 ≡ true =
+            yes-at (asked (l .starts) (l .counts) after samples whole visitorWhole) (asked-numbered (l .starts) (l .counts) after samples whole visitorWhole) (sym isn ∙ h) in
+            placings-ok (stored (l .starts) (l .counts) after) (yes 0) (yes 1) (yes 2)
 
         pub answered-0 : n ≡ 0 → (s : Scene) → s ≡ sceneOf (stored (l .starts) (l .counts) after) → _≡_ {A = Answer} (record { number = 0; scene = s }) (answered file (firstNo all))
         unfolding answered

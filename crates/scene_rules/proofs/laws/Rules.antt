@@ -16,9 +16,9 @@ use Rattle.clock.specs.ClockSpeed.{asTicksPerSecond, allowedSpeed}
 use Rattle.scene_tables.specs.declared.tables.Field.{Field}
 use Rattle.scene_tables.specs.declared.tables.Field.the-variants.{Number, Line, Earlier, Index}
 use Rattle.scene_tables.specs.declared.tables.LineRule.{LineRule}
-use Rattle.scene_tables.specs.declared.tables.LineRule.the-variants.{Plain, Speed, Order}
-use Rattle.scene_tables.specs.Tables.{raised, natural, clockColumn, orderColumn, orderKind}
-use Rattle.scene_questions.specs.Questions.{inRange, namesLine, lineInRange, lineNamesLine, speedOf, orderFits, volumeFits, partFits, millisFit, powerFits, indexNamesLine, indexTable}
+use Rattle.scene_tables.specs.declared.tables.LineRule.the-variants.{Plain, Speed, Apart, Order}
+use Rattle.scene_tables.specs.Tables.{raised, natural, clockColumn, placingColumn, orderColumn, orderKind}
+use Rattle.scene_questions.specs.Questions.{inRange, namesLine, lineInRange, lineNamesLine, speedOf, orderFits, volumeFits, partFits, millisFit, powerFits, distancesApart, indexNamesLine, indexTable}
 use Rattle.scene_questions.specs.Places.{fieldPasses, linePasses}
 
 -- ---- a field
@@ -180,6 +180,15 @@ module _ (lines : ℕ → ℕ) (blocks : ℕ) (rule : LineRule) (v : List ℕ) (
       → r ≡ allowedSpeed (speedOf unit speed) → r ≡ linePasses references lines blocks rule (drop a v)
   unfolding linePasses lineInRange
   line-speed-4 references r unit speed e h p q k = rw (h, e, getD-drop a v (clockColumn .unit) 0, getD-drop a v (clockColumn .speed) 0, ← p, ← q) k
+
+  pub line-apart-5 : (references : Bool) → rule ≡ Apart → references ≡ true → true ≡ linePasses references lines blocks rule (drop a v)
+  unfolding linePasses lineNamesLine
+  line-apart-5 references e h = rw (h, e)
+
+  pub line-apart-4 : (references : Bool) (near far : ℕ) → rule ≡ Apart → references ≡ false → near ≡ getD v (a + placingColumn .near) 0 → far ≡ getD v (a + placingColumn .far) 0
+      → ltb near far ≡ linePasses references lines blocks rule (drop a v)
+  unfolding linePasses lineInRange distancesApart
+  line-apart-4 references near far e h p q = rw (h, e, getD-drop a v (placingColumn .near) 0, getD-drop a v (placingColumn .far) 0, ← p, ← q)
 
   pub line-order-5 : (references r : Bool) (kind index : ℕ) → rule ≡ Order → references ≡ true → kind ≡ getD v (a + orderColumn .kind) 0 → index ≡ getD v (a + orderColumn .index) 0
       → r ≡ indexNamesLine lines kind index → r ≡ linePasses references lines blocks rule (drop a v)

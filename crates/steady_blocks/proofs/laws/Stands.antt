@@ -3,7 +3,7 @@ use mathlib.Core.Path.{_≡_, refl, sym, ap, ap₂, _∙_, subst}
 use mathlib.Core.List.{List, [], _∷_}
 use Prim.Native.Nat.{ℕ, _+_, _-_, _*_, _≤_, _<_}
 use lib.ListN.{length, getD, replicate, length-set, length-replicate}
-use lib.Ieee.{Float}
+use lib.Ieee.{Float, nan}
 use mathlib.Core.Logic.{⊎-elim}
 use mathlib.Core.Bool.{Bool, true, false, cond}
 use native.Mathlib.Nat.{le-trans, le-of-eq, eq-or-lt-of-le}
@@ -15,8 +15,8 @@ use Rattle.limits.specs.Limits.{trackPlaces, sendLines, routeLines, soundLines}
 use Rattle.scene.specs.declared.scene.Scene.{Scene}
 use Rattle.mixer.specs.declared.mixer.Mixer.{Mixer}
 use Rattle.mixer_chunk.specs.ChunkOf.{chunkOf, chunkTrack, chunkSound, emptyLevel, chunkTracks, chunkSends, chunkRoutes, chunkSounds, emptyTrackRow, emptySoundRow, emptyRouteRow}
-use Rattle.chunk.specs.Flat.{advancingFrom, routeTracksFrom, routeSendsFrom, soundTracksFrom, soundFromsFrom, soundStartsFrom, soundLeftsFrom, framesPlace, trackCountPlace, sendCountPlace, routeCountPlace, soundCountPlace, placesSize, levelSize, trackLevels}
-use Rattle.chunk.specs.Flat.{chunkFrom, column, trackFrom, routeFrom, soundFrom, levelFrom, placesOf, levelsOf, amplitudesOf}
+use Rattle.chunk.specs.Flat.{advancingFrom, placingsFrom, routeTracksFrom, routeSendsFrom, soundTracksFrom, soundFromsFrom, soundStartsFrom, soundLeftsFrom, framesPlace, trackCountPlace, sendCountPlace, routeCountPlace, soundCountPlace, placesSize, levelSize, placingOffset, trackLevels}
+use Rattle.chunk.specs.Flat.{chunkFrom, column, placingFrom, trackFrom, routeFrom, soundFrom, levelFrom, placesOf, levelsOf, amplitudesOf}
 use Rattle.steady_blocks.specs.Advance.{framed, moves, framesOf, advanced, TracksThere}
 use Rattle.laws.specs.Loop.{changed}
 use Rattle.laws.proofs.laws.Loop.{changed-length, changed-below, changed-from}
@@ -24,7 +24,7 @@ use Rattle.laws.proofs.laws.Pieces.{pieces-cong}
 use Rattle.laws.proofs.laws.FloatRound.{below-or-not}
 use Rattle.clock.specs.declared.when_to_start.Clocks.{Clocks}
 use Rattle.scene.specs.declared.scene.SoundLine.{SoundLine}
-use Rattle.accepted.specs.Lines.{soundLine, absentTrackLine}
+use Rattle.accepted.specs.Lines.{soundLine, placingAt, absentTrackLine}
 use Rattle.accepted.specs.SceneOk.{SceneOk}
 use Rattle.chunk.specs.declared.chunk.ChunkTrack.{ChunkTrack}
 use Rattle.chunk.specs.declared.chunk.ChunkSound.{ChunkSound}
@@ -47,12 +47,24 @@ column-cong : {A : Type 0} (f g : ℕ → A) (n : ℕ) → ((k : ℕ) → k < n 
 unfolding column
 column-cong f g n h = pieces-cong (λ j. f j ∷ []) (λ j. g j ∷ []) n (λ i b. ap (λ x. x ∷ []) (h i b))
 
+-- a track's line by what `places` has of it
+abbrev trackBy : List Float → ℕ → ℕ → ℕ → ℕ → ChunkTrack
+trackBy levels j parent advancing placing =
+    record {
+      parent = parent;
+      advancing = eqb advancing 1;
+      placing = placingFrom placing (getD levels (trackLevels * j + placingOffset) nan);
+      volume = levelFrom levels (trackLevels * j);
+      fade = levelFrom levels (trackLevels * j + levelSize);
+    }
+
 module _ (p q : List ℕ) (levels amplitudes : List Float) (before : (i : ℕ) → i < soundStartsFrom → getD p i 0 ≡ getD q i 0) where
   same-tracks : column (trackFrom p levels) trackPlaces ≡ column (trackFrom q levels) trackPlaces
   unfolding trackFrom
   same-tracks =
       column-cong (trackFrom p levels) (trackFrom q levels) trackPlaces
-      (λ j b. ap₂ (λ (parent advancing : ℕ). record { parent = parent; advancing = eqb advancing 1; volume = levelFrom levels (trackLevels * j); fade = levelFrom levels (trackLevels * j + levelSize) }) (before j (omega arith)) (before (advancingFrom + j) (omega arith)))
+      (λ j b. ap₂ (λ (parent advancing : ℕ). trackBy levels j parent advancing (getD p (placingsFrom + j) 0)) (before j (omega arith)) (before (advancingFrom + j) (omega arith))
+      ∙ ap (trackBy levels j (getD q j 0) (getD q (advancingFrom + j) 0)) (before (placingsFrom + j) (omega arith)))
 
   same-routes : column (routeFrom p amplitudes) routeLines ≡ column (routeFrom q amplitudes) routeLines
   unfolding routeFrom
@@ -158,7 +170,7 @@ module _ (s : Scene) (m : Mixer) (places : List ℕ) (levels amplitudes : List F
       ∙ ap (λ (x : ChunkTrack). x .advancing)
       (sym (track-from (framed 0 places) levels amplitudes t few)
       ∙ ap (λ (c : Chunk). getD (c .tracks) t absentTrackRow) (stands .same 0)
-      ∙ changed-below (λ t x. chunkTrack (getD (s .tracks) t absentTrackLine) (stateOf (m .tracks) t)) (s .«track_count») (replicate trackPlaces emptyTrackRow) t absentTrackRow b (le-trans few (le-of-eq (sym (length-replicate trackPlaces emptyTrackRow)))))
+      ∙ changed-below (λ t x. chunkTrack (getD (s .tracks) t absentTrackLine) (placingAt s t) (stateOf (m .tracks) t)) (s .«track_count») (replicate trackPlaces emptyTrackRow) t absentTrackRow b (le-trans few (le-of-eq (sym (length-replicate trackPlaces emptyTrackRow)))))
 
   -- a sound moves where its track is live
   stands-moves : (k : ℕ) → k < s .«sound_count» → moves places k ≡ liveAbove (m .tracks) (soundLine s k .track)

@@ -9,6 +9,7 @@ use Rattle.laws.specs.Count.{counted}
 use Rattle.laws.specs.Loop.{upto, downto, changed}
 use Rattle.laws.specs.Pieces.{pieces, begun, putAt}
 use Rattle.laws.specs.Interpolate.{interpolate}
+use Rattle.laws.specs.FloatOrder.{plus}
 use Rattle.rounding.specs.Narrow.{narrowed, narrowedBits}
 use Rattle.rounding.specs.Nearest.{nearestQuotient}
 use Rattle.rounding.specs.Duration.{nanosFromSecs, secsFromMillis}
@@ -21,13 +22,15 @@ use Rattle.tween.specs.Tween.{powiFrom, powi, inOutPowi, easingApply, tweenValu
 use Rattle.tween.specs.Tweenable.{interpolated}
 use Rattle.parameter.specs.Parameter.{parameterNew, interpolatedValue, parameterSet, isNow, startedAt, tweenStart, withState, tweenMove, tweenUpdateIn, tweenUpdate, valueIn, newRawValue, withPrevious, withNewValue, parameterUpdate}
 use Rattle.playback.specs.PlaybackStateManager.{isAdvancing, isStopped, playbackNew, interpolatedFadeVolume, playbackPause, resumed, resumedAt, playbackResume, afterFade, waitedUntil, waitingUpdate, stateUpdate, playbackUpdate}
-use Rattle.scene.specs.Scene.{volumeOf, kindOf, clockTimeOf, startTimeOf, easingOf, headOf, clockOf, trackOf, sendOf, routeOf, soundOf, orderOf, filled, sceneOf}
+use Rattle.root.specs.Root.{units, reaches, last, root}
+use Rattle.spatial.specs.Spatial.{lengthSquared, distance, clamp as held-distance, relativeDistance, relativeVolume, attenuation, factor}
+use Rattle.scene.specs.Scene.{volumeOf, kindOf, clockTimeOf, startTimeOf, easingOf, headOf, clockOf, trackOf, sendOf, routeOf, soundOf, orderOf, listenerOf, positionOf, distancesOf, placingOf, placingsOf, filled, sceneOf}
 use Rattle.scene_questions.specs.Questions.{speedOf}
 use Rattle.frame.specs.Frame.{added, scaled, clamp, clamped, addedFrom, addedScaled, sampleFrame}
 use Rattle.frame.specs.Layout.{frameAt, putFrame}
 use Rattle.chunk.specs.Chunk.{amountAt, levelAmplitude, trackAmplitude}
 use Rattle.track.specs.Sound.{soundFrame, addedSound, withSounds}
-use Rattle.track.specs.Sub.{overSubTracks, trackFrame, withRoutes, withTrackSends, trackScaled, withRoutesFrom, sumOver, withSubSends}
+use Rattle.track.specs.Sub.{overSubTracks, placed, trackFrame, withRoutes, withTrackSends, trackScaled, withRoutesFrom, sumOver, withSubSends}
 use Rattle.track.specs.Send.{onSends, sendFrame, levelScaled, addedSend}
 use Rattle.track.specs.Mix.{sendInput, tracksFrame, mixedFrame, tracksSet, withSendTracks, mixedSet}
 use Rattle.mixer.specs.Sub.{trackNew, trackMoved, trackStill, trackUpdate, trackSet, trackPause, trackResume}
@@ -49,5 +52,5 @@ agree-by-test [] t = tt
 agree-by-test (r ∷ rest) t = (eqb→eq (r .given) (r .said) (and-l (eqb (r .given) (r .said)) (agrees rest) t), agree-by-test rest (and-r (eqb (r .given) (r .said)) (agrees rest) t))
 
 pub examples-agree : Agree rows
-unfolding rows toUnsigned stateNumber counted eq ofBits round zerosOf zeroFrames upto downto changed pieces begun putAt interpolate narrowed narrowedBits nearestQuotient nanosFromSecs secsFromMillis admitted entryBelow restAbove lineAt curve amplitude clocksUpdated whenToStart ticksOf fractionOf timeOf takenWithin taken updated asTicksPerSecond allowedSpeed isImmediate delayLeft afterDelay atClockTime startTimeUpdate powiFrom powi inOutPowi easingApply tweenValue interpolated parameterNew interpolatedValue parameterSet isNow startedAt tweenStart withState tweenMove tweenUpdateIn tweenUpdate valueIn newRawValue withPrevious withNewValue parameterUpdate isAdvancing isStopped playbackNew interpolatedFadeVolume playbackPause resumed resumedAt playbackResume afterFade waitedUntil waitingUpdate stateUpdate playbackUpdate volumeOf kindOf clockTimeOf startTimeOf easingOf headOf clockOf trackOf sendOf routeOf soundOf orderOf filled sceneOf speedOf added scaled clamp clamped frameAt putFrame addedFrom addedScaled amountAt levelAmplitude trackAmplitude soundFrame addedSound withSounds overSubTracks trackFrame withRoutes withTrackSends trackScaled onSends withRoutesFrom sendFrame levelScaled addedSend sendInput tracksFrame mixedFrame tracksSet withSendTracks mixedSet trackNew trackMoved trackStill trackUpdate trackSet trackPause trackResume emptyTrack emptyParameter emptyClock clocksNew tracksNew sendsNew routesNew mixerNew liveAbove trackStep tracksUpdate updatedWhere routeUpdate routesUpdate sendsUpdate mixerUpdate kindNumber isKindFor foundAfter lastIsAfter dropped counts tweenOf resumeTweenOf mapTrack withSend-mixer mapRoute mapMain orderedBy resumedBy orderStep resumeStep mixerOrdered playedMore playedAfter playedOn soundsPlayed levelOf chunkTrack chunkRoute chunkSound emptyLevel emptyTrackRow emptyRouteRow emptySoundRow chunkTracks chunkSends chunkRoutes chunkSounds chunkOf chunkCount chunkFrames inChunk chunkDone chunksDone blockDone mixerAt channelAt channelsOf chunkSamples blockSamples rendered add sub mul div lt le neg ofInt toBits sampleFrame sumOver withSubSends secondDifference correctionAt curveAt recording
+unfolding rows toUnsigned stateNumber counted eq ofBits round zerosOf zeroFrames upto downto changed pieces begun putAt interpolate narrowed narrowedBits nearestQuotient nanosFromSecs secsFromMillis admitted entryBelow restAbove lineAt curve amplitude clocksUpdated whenToStart ticksOf fractionOf timeOf takenWithin taken updated asTicksPerSecond allowedSpeed isImmediate delayLeft afterDelay atClockTime startTimeUpdate powiFrom powi inOutPowi easingApply tweenValue interpolated parameterNew interpolatedValue parameterSet isNow startedAt tweenStart withState tweenMove tweenUpdateIn tweenUpdate valueIn newRawValue withPrevious withNewValue parameterUpdate isAdvancing isStopped playbackNew interpolatedFadeVolume playbackPause resumed resumedAt playbackResume afterFade waitedUntil waitingUpdate stateUpdate playbackUpdate volumeOf kindOf clockTimeOf startTimeOf easingOf headOf clockOf trackOf sendOf routeOf soundOf orderOf filled sceneOf speedOf added scaled clamp clamped frameAt putFrame addedFrom addedScaled amountAt levelAmplitude trackAmplitude soundFrame addedSound withSounds overSubTracks trackFrame withRoutes withTrackSends trackScaled onSends withRoutesFrom sendFrame levelScaled addedSend sendInput tracksFrame mixedFrame tracksSet withSendTracks mixedSet trackNew trackMoved trackStill trackUpdate trackSet trackPause trackResume emptyTrack emptyParameter emptyClock clocksNew tracksNew sendsNew routesNew mixerNew liveAbove trackStep tracksUpdate updatedWhere routeUpdate routesUpdate sendsUpdate mixerUpdate kindNumber isKindFor foundAfter lastIsAfter dropped counts tweenOf resumeTweenOf mapTrack withSend-mixer mapRoute mapMain orderedBy resumedBy orderStep resumeStep mixerOrdered playedMore playedAfter playedOn soundsPlayed levelOf chunkTrack chunkRoute chunkSound emptyLevel emptyTrackRow emptyRouteRow emptySoundRow chunkTracks chunkSends chunkRoutes chunkSounds chunkOf chunkCount chunkFrames inChunk chunkDone chunksDone blockDone mixerAt channelAt channelsOf chunkSamples blockSamples rendered add sub mul div lt le neg ofInt toBits sampleFrame sumOver withSubSends secondDifference correctionAt curveAt recording plus placed units reaches last root lengthSquared distance held-distance relativeDistance relativeVolume attenuation factor listenerOf positionOf distancesOf placingOf placingsOf
 examples-agree = agree-by-test rows tt

@@ -20,7 +20,7 @@ use Rattle.chunk.specs.declared.chunk.Chunk.{Chunk}
 use Rattle.frame.specs.Frame.{zeroFrame, added, scaled, addedFrom, cleared, zeroSample}
 use Rattle.frame.specs.Layout.{scratch, frameAt, withFrames}
 use Rattle.chunk.specs.Chunk.{amountAt, trackAmplitude, trackRow}
-use Rattle.track.specs.Sub.{trackFrame, trackSum}
+use Rattle.track.specs.Sub.{placed, trackFrame, trackSum}
 use Rattle.frame.proofs.laws.Layout.{first-at, silent-at}
 use Rattle.frame.specs.Running.{Both, Running, AllRunning, AllZero}
 
@@ -72,7 +72,7 @@ unfolding trackFrame
 track-fits zero c samples line i = both-zero Fits (posZero-fits binary32)
 track-fits (suc d) c samples line i =
     let track = trackRow c (line - 1) in
-    let sum : Frame = trackSum d c samples line i in
+    let sum : Frame = placed (track .placing) (trackSum d c samples line i) in
     let factor : Amplitude = trackAmplitude track (amountAt i (c .frames)) in
     picked-if (Both Fits) (track .advancing) (scaled sum factor) zeroFrame (λ t. scaled-fits sum factor) (both-zero Fits (posZero-fits binary32))
 

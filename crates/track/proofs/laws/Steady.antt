@@ -1,28 +1,21 @@
 -- A level that stands still scales all frames of a chunk by one amplitude, and one that moves scales each by the factor that was made for it. Assumes
 -- nothing.
-use mathlib.Core.Path.{_≡_, sym, ap, ap₂, _∙_}
+use mathlib.Core.Path.{_≡_, sym, ap, _∙_}
 use mathlib.Core.Bool.{true}
 use mathlib.Core.List.{List}
-use Prim.Native.Nat.{ℕ, _≤_, _<_}
-use native.Mathlib.Omega.{arith}
-use lib.ListN.{length, getD}
-use lib.Ieee.{Float, nan, binary32, mul}
+use Prim.Native.Nat.{ℕ, _≤_}
+use lib.ListN.{length}
+use lib.Ieee.{Float}
 use Rattle.decibels.specs.declared.decibels.Amplitude.{Amplitude}
 use Rattle.frame.specs.declared.frame.Frame.{Frame}
 use Rattle.chunk.specs.declared.chunk.Level.{Level}
-use Rattle.chunk.specs.declared.chunk.ChunkTrack.{ChunkTrack}
 use Rattle.limits.specs.Limits.{chunkFramesMost}
 use Rattle.frame.specs.Frame.{zeroFrame, added, scaled, scaledBy}
 use Rattle.frame.specs.Layout.{scratch, withFrames}
-use Rattle.chunk.specs.Chunk.{amountAt, levelAmplitude, trackAmplitude, isSteady, steadyAmplitude, withFactors, LevelInRange}
+use Rattle.chunk.specs.Chunk.{isSteady, steadyAmplitude, withFactors, LevelInRange}
 use Rattle.track.specs.Send.{sendFrame, levelScaled, addedSend}
-use Rattle.track.specs.Sub.{trackScaled}
-use Rattle.chunk.proofs.laws.Chunk.{amount-is, factor-at, steady}
+use Rattle.track_volume.proofs.laws.Steady.{factorOf, steady-at, factor-is}
 use Rattle.frame.proofs.laws.Layout.{first-cong}
-
--- the product of two amplitudes
-abbrev pub product : Amplitude → Amplitude → Amplitude
-product x y = record { 0 = mul binary32 (x .0) (y .0) }
 
 -- ---- the steps of the loops
 
@@ -30,21 +23,9 @@ product x y = record { 0 = mul binary32 (x .0) (y .0) }
 abbrev pub sent : (ℕ → Frame) → Amplitude → ℕ → Frame → Frame
 sent input factor i a = added a (scaled (added zeroFrame (input i)) factor)
 
--- the factor of frame i in an array
-abbrev pub factorOf : List Float → ℕ → Amplitude
-factorOf factors i = record { 0 = getD factors i nan }
-
 -- by factors of their own
 abbrev pub scaledEach : List Float → ℕ → Frame → Frame
 scaledEach factors i a = scaled a (factorOf factors i)
-
--- by those, and by one more
-abbrev pub scaledEachBy : List Float → Amplitude → ℕ → Frame → Frame
-scaledEachBy factors by i a = scaled a (product (factorOf factors i) by)
-
--- by two of their own
-abbrev pub scaledTwice : List Float → List Float → ℕ → Frame → Frame
-scaledTwice factors others i a = scaled a (product (factorOf factors i) (factorOf others i))
 
 abbrev pub sentEach : (ℕ → Frame) → List Float → ℕ → Frame → Frame
 sentEach input factors i a = sent input (factorOf factors i) i a
@@ -52,46 +33,22 @@ sentEach input factors i a = sent input (factorOf factors i) i a
 -- ---- levels that stand still
 
 module _ (n : ℕ) (short : n ≤ chunkFramesMost) where
-  -- at frame i
-  pub steady-at : (level : Level) (i : ℕ) → isSteady level ≡ true → LevelInRange level → i < n → levelAmplitude level (amountAt i n) ≡ steadyAmplitude level
-  steady-at level i s h p = steady level (amountAt i n) s h (amount-is i n p short)
-
   pub level-steady : (level : Level) (l : List Float) {factor : Amplitude} → isSteady level ≡ true → LevelInRange level → factor ≡ steadyAmplitude level → withFrames (scratch 0 n) (scaledBy factor) l ≡ withFrames (scratch 0 n) (levelScaled level n) l
   unfolding scaledBy levelScaled
-  level-steady level l {factor} s h e = first-cong (scratch 0 n) (scaledBy factor) (levelScaled level n) n l (λ k p a. ap (scaled a) (e ∙ sym (steady-at level k s h p)))
-
-  pub track-steady : (t : ChunkTrack) (l : List Float) {x y : Amplitude} → isSteady (t .volume) ≡ true → isSteady (t .fade) ≡ true → LevelInRange (t .volume) → LevelInRange (t .fade) → x ≡ steadyAmplitude (t .volume) → y ≡ steadyAmplitude (t .fade) → withFrames (scratch 0 n) (scaledBy (product x y)) l ≡ withFrames (scratch 0 n) (trackScaled t n) l
-  unfolding scaledBy trackScaled trackAmplitude
-  track-steady t l {x} {y} s r h k e d = first-cong (scratch 0 n) (scaledBy (product x y)) (trackScaled t n) n l
-      (λ i p a. ap (scaled a) (ap₂ product (e ∙ sym (steady-at (t .volume) i s h p)) (d ∙ sym (steady-at (t .fade) i r k p))))
+  level-steady level l {factor} s h e = first-cong (scratch 0 n) (scaledBy factor) (levelScaled level n) n l (λ k p a. ap (scaled a) (e ∙ sym (steady-at n short level k s h p)))
 
   pub send-steady : (level : Level) (input : ℕ → Frame) (l : List Float) {factor : Amplitude} → isSteady level ≡ true → LevelInRange level → factor ≡ steadyAmplitude level → withFrames (scratch 0 n) (sent input factor) l ≡ withFrames (scratch 0 n) (addedSend level n input) l
   unfolding addedSend sendFrame
   send-steady level input l {factor} s h e = first-cong (scratch 0 n) (sent input factor) (addedSend level n input) n l
-      (λ k p a. ap (λ (x : Amplitude). added a (scaled (added zeroFrame (input k)) x)) (e ∙ sym (steady-at level k s h p)))
+      (λ k p a. ap (λ (x : Amplitude). added a (scaled (added zeroFrame (input k)) x)) (e ∙ sym (steady-at n short level k s h p)))
 
   -- ---- levels that move: `empty` is what the factors' array held before they were set
 
-  factor-is : (level : Level) (empty : List Float) (i : ℕ) {factors : List Float} → length empty ≡ chunkFramesMost → factors ≡ withFactors level n empty → i < n → factorOf factors i ≡ levelAmplitude level (amountAt i n)
-  factor-is level empty i w e p = ap (λ (x : Float). record { 0 = x }) (factor-at level n i empty p (omega arith) e)
-
   pub level-each : (level : Level) (l empty : List Float) {factors : List Float} → length empty ≡ chunkFramesMost → factors ≡ withFactors level n empty → withFrames (scratch 0 n) (scaledEach factors) l ≡ withFrames (scratch 0 n) (levelScaled level n) l
   unfolding levelScaled
-  level-each level l empty {factors} w e = first-cong (scratch 0 n) (scaledEach factors) (levelScaled level n) n l (λ k p a. ap (scaled a) (factor-is level empty k w e p))
+  level-each level l empty {factors} w e = first-cong (scratch 0 n) (scaledEach factors) (levelScaled level n) n l (λ k p a. ap (scaled a) (factor-is n short level empty k w e p))
 
   pub send-each : (level : Level) (input : ℕ → Frame) (l empty : List Float) {factors : List Float} → length empty ≡ chunkFramesMost → factors ≡ withFactors level n empty → withFrames (scratch 0 n) (sentEach input factors) l ≡ withFrames (scratch 0 n) (addedSend level n input) l
   unfolding addedSend sendFrame
   send-each level input l empty {factors} w e = first-cong (scratch 0 n) (sentEach input factors) (addedSend level n input) n l
-      (λ k p a. ap (λ (x : Amplitude). added a (scaled (added zeroFrame (input k)) x)) (factor-is level empty k w e p))
-
-  -- a moving volume with a fade that stands still
-  pub volume-each : (t : ChunkTrack) (l empty : List Float) {factors : List Float} {y : Amplitude} → isSteady (t .fade) ≡ true → LevelInRange (t .fade) → y ≡ steadyAmplitude (t .fade) → length empty ≡ chunkFramesMost → factors ≡ withFactors (t .volume) n empty → withFrames (scratch 0 n) (scaledEachBy factors y) l ≡ withFrames (scratch 0 n) (trackScaled t n) l
-  unfolding trackScaled trackAmplitude
-  volume-each t l empty {factors} {y} s h d w e = first-cong (scratch 0 n) (scaledEachBy factors y) (trackScaled t n) n l
-      (λ i p a. ap (scaled a) (ap₂ product (factor-is (t .volume) empty i w e p) (d ∙ sym (steady-at (t .fade) i s h p))))
-
-  -- both move
-  pub track-each : (t : ChunkTrack) (l empty : List Float) {volumes fades : List Float} → length empty ≡ chunkFramesMost → volumes ≡ withFactors (t .volume) n empty → fades ≡ withFactors (t .fade) n empty → withFrames (scratch 0 n) (scaledTwice volumes fades) l ≡ withFrames (scratch 0 n) (trackScaled t n) l
-  unfolding trackScaled trackAmplitude
-  track-each t l empty {volumes} {fades} w e d = first-cong (scratch 0 n) (scaledTwice volumes fades) (trackScaled t n) n l
-      (λ i p a. ap (scaled a) (ap₂ product (factor-is (t .volume) empty i w e p) (factor-is (t .fade) empty i w d p)))
+      (λ k p a. ap (λ (x : Amplitude). added a (scaled (added zeroFrame (input k)) x)) (factor-is n short level empty k w e p))

@@ -22,7 +22,7 @@ use Rattle.frame.specs.Running.{AllRunning, AllZero}
 use Rattle.chunk.specs.Chunk.{amountAt, trackAmplitude, routeRow, trackRow}
 use Rattle.track.specs.Sound.{withSounds}
 use Rattle.track.specs.Send.{sendPlaces, sendLayout, onSends}
-use Rattle.track.specs.Sub.{overSubTracks, sumOver, trackSum, trackFrame, withRoutes, withTrackSends, withSubSends, sumSet, trackScaled, withRoutesFrom}
+use Rattle.track.specs.Sub.{overSubTracks, sumOver, trackSum, trackFrame, withRoutes, withTrackSends, withSubSends, placed, sumSet, trackPlaced, trackScaled, trackPlacedScaled, withRoutesFrom}
 use Rattle.frame.proofs.laws.Layout.{Step, first-at, first-cong, first-cong-at, first-held, first-twice}
 use Rattle.frame.proofs.laws.Turn.{frames-steps, step-picked, step-left}
 use Rattle.track.proofs.laws.Running.{zeros, absorbed}
@@ -124,18 +124,18 @@ track-added depth c samples line l out has e =
     e ∙ first-cong L (addedFrom (frameAt L out)) (addedFrom (trackFrame depth c samples line)) (c .frames) l (λ k p a. ap (added a) (has k p))
 
 module _ (depth d : ℕ) (c : Chunk) (samples : Recordings) (line : ℕ) (deep : depth ≡ suc d) where
-  -- its sum, and volume times fade
-  pub track-mixed : (l : List Float) {sum last : List Float} → 2 * c .frames ≤ length l → trackRow c (line - 1) .advancing ≡ true → sum ≡ withFrames (scratch 0 (c .frames)) (sumSet d c samples line) l → last ≡ withFrames (scratch 0 (c .frames)) (trackScaled (trackRow c (line - 1)) (c .frames)) sum → HasTrack depth c samples line last
-  unfolding trackFrame trackScaled sumSet
+  -- its sum, its placing, and volume times fade
+  pub track-mixed : (l : List Float) {sum last : List Float} → 2 * c .frames ≤ length l → trackRow c (line - 1) .advancing ≡ true → sum ≡ withFrames (scratch 0 (c .frames)) (sumSet d c samples line) l → last ≡ withFrames (scratch 0 (c .frames)) (trackPlacedScaled (trackRow c (line - 1)) (c .frames)) sum → HasTrack depth c samples line last
+  unfolding trackFrame trackPlacedScaled trackPlaced trackScaled sumSet
   track-mixed l w moves a e i p =
       let n = c .frames in
       let L = scratch 0 n in
       let track = trackRow c (line - 1) in
       let u : Step = sumSet d c samples line in
-      let v : Step = trackScaled track n in
+      let v : Step = trackPlacedScaled track n in
       ap (λ (r : List Float). frameAt L r i) (e ∙ ap (withFrames L v) a ∙ first-twice L u v n l (le-refl n) (omega (arith, w)))
       ∙ first-at L (λ k x. v k (u k x)) n l i (le-refl n) (omega (arith, w)) p
-      ∙ sym (cond-true (track .advancing) (scaled (trackSum d c samples line i) (trackAmplitude track (amountAt i n))) zeroFrame moves)
+      ∙ sym (cond-true (track .advancing) (scaled (placed (track .placing) (trackSum d c samples line i)) (trackAmplitude track (amountAt i n))) zeroFrame moves)
       ∙ ap (λ (z : ℕ). trackFrame z c samples line i) (sym deep)
 
 module _ (depth d : ℕ) (c : Chunk) (samples : Recordings) (line : ℕ) (l : List Float) (deep : depth ≡ suc d) where
@@ -145,7 +145,7 @@ module _ (depth d : ℕ) (c : Chunk) (samples : Recordings) (line : ℕ) (l : Li
       let L = scratch 0 (c .frames) in
       let track = trackRow c (line - 1) in
       sym (first-held L (addedFrom (trackFrame (suc d) c samples line)) (c .frames) l
-      (λ k p. ap (added (frameAt L l k)) (cond-false (track .advancing) (scaled (trackSum d c samples line k) (trackAmplitude track (amountAt k (c .frames)))) zeroFrame stops)
+      (λ k p. ap (added (frameAt L l k)) (cond-false (track .advancing) (scaled (placed (track .placing) (trackSum d c samples line k)) (trackAmplitude track (amountAt k (c .frames)))) zeroFrame stops)
       ∙ absorbed (run k p) zeros))
       ∙ ap (λ (z : ℕ). withFrames L (addedFrom (trackFrame z c samples line)) l) (sym deep)
 

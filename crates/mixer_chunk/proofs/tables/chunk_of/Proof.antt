@@ -4,19 +4,19 @@ use Rattle.mixer_chunk.proofs.tables.chunk_of.Statement.{statement}
 use Rattle.mixer_chunk.proofs.tables.chunk_of.Tie as tie
 
 chunk-tracks-requires : tie.Need-chunk-tracks-requires
-chunk-tracks-requires c κs = c .before .before .pre .1 .0 .trackCount
+chunk-tracks-requires c κs = c .before .before .before .pre .1 .0 .trackCount
 
 chunk-sends-requires : tie.Need-chunk-sends-requires
-chunk-sends-requires c κs = c .before .before .before .before .pre .1 .0 .sendCount
+chunk-sends-requires c κs = c .before .before .before .before .before .pre .1 .0 .sendCount
 
 chunk-routes-requires : tie.Need-chunk-routes-requires
 chunk-routes-requires c κs =
-    let pre = c .before .before .before .before .before .before .before .pre in
+    let pre = c .before .before .before .before .before .before .before .before .pre in
     (pre .0, (pre .1 .0 .routeCount, pre .1 .1 .routes))
 
 chunk-sounds-requires : tie.Need-chunk-sounds-requires
 chunk-sounds-requires c κs =
-    let pre = c .before .before .before .before .before .before .before .before .before .before .pre in
+    let pre = c .before .before .before .before .before .before .before .before .before .before .before .pre in
     (pre .1 .0 .soundCount, (pre .1 .1 .played, pre .1 .1 .room))
 
 level-of-requires : tie.Need-level-of-requires
@@ -29,7 +29,7 @@ returns c =
     let routes = sounds .before .before .before in
     let sends = routes .before .before .before in
     let tracks = sends .before .before in
-    let a = tracks .before .before .before .args in
+    let a = tracks .before .before .before .before .args in
     let s = a .scene in
     λ i.
     record {

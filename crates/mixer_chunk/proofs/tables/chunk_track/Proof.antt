@@ -16,7 +16,7 @@ returns : tie.Need-returns
 unfolding chunkTrack
 returns c =
     let a = c .before .before .before .before .before .args in
-    ap₂ {C = ChunkTrack} (λ (volume fade : Level). record { parent = a .line .parent; advancing = a .track .live; volume = volume; fade = fade }) (c .before .level-of .ensures) (c .level-of2 .ensures)
+    ap₂ {C = ChunkTrack} (λ (volume fade : Level). record { parent = a .line .parent; advancing = a .track .live; placing = a .placing; volume = volume; fade = fade }) (c .before .level-of .ensures) (c .level-of2 .ensures)
 
 pub chunk-track-spec : {M : Type 1} → statement M
 chunk-track-spec = tie.close (tie.spec level-of-requires level-of-requires-2 returns)

@@ -1,30 +1,15 @@
 -- `volume_of` meets its contract. Assumes nothing.
 use borrow.Author.Needs.{needs}
-use Rattle.scene.proofs.laws.LineValues.{volume-below, volume-above}
+use Rattle.scene.specs.Scene.{volumeOf}
 use Rattle.scene.proofs.scene.volume_of.Statement.{statement}
 use Rattle.scene.proofs.scene.volume_of.Tie as tie
 
-sub-nearest-u32-to-f32 : tie.Need-sub-nearest-u32-to-f32
-sub-nearest-u32-to-f32 c = search needs
-
-nearest-u32-to-f32-requires : tie.Need-nearest-u32-to-f32-requires
-nearest-u32-to-f32-requires c κs = search needs
+thousandths-requires : tie.Need-thousandths-requires
+thousandths-requires c κs = search needs
 
 returns : tie.Need-returns
-returns c = search (volume-below, volume-above, needs)
-
-nearest-u32-to-f32-requires-2 : tie.Need-nearest-u32-to-f32-requires-2
-nearest-u32-to-f32-requires-2 c κs = search needs
-
-returns-2 : tie.Need-returns-2
-returns-2 c = search (volume-above, needs)
+unfolding volumeOf
+returns c = rw (c .thousandths .ensures)
 
 pub volume-of-spec : {M : Type 1} → statement M
-volume-of-spec =
-    tie.close
-    (tie.spec
-    sub-nearest-u32-to-f32
-    nearest-u32-to-f32-requires
-    returns
-    nearest-u32-to-f32-requires-2
-    returns-2)
+volume-of-spec = tie.close (tie.spec thousandths-requires returns)

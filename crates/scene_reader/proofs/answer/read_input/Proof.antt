@@ -5,7 +5,7 @@ use native.Mathlib.Omega.{arith}
 use borrow.Author.Tests.{not-false}
 use borrow.Author.Needs.{needs}
 use Rattle.recordings.specs.Recordings.{recordings}
-use Rattle.scene_reader.proofs.laws.Answer.{answered-1, answered-2, answered-n, answered-0, counts-known, small-file}
+use Rattle.scene_reader.proofs.laws.Answer.{answered-1, answered-2, answered-n, answered-0, counts-known, placings-known, small-file}
 use Rattle.scene_reader.proofs.laws.Read.{read-low}
 use Rattle.scene_reader.proofs.answer.read_input.Statement.{statement}
 use Rattle.scene_reader.proofs.answer.read_input.Tie as tie
@@ -47,7 +47,7 @@ slice-aggregate-scene-of : tie.Need-slice-aggregate-scene-of
 slice-aggregate-scene-of c = search needs
 
 scene-of-requires : tie.Need-scene-of-requires
-scene-of-requires c κs = (read-low _ _ _ _ (c .before .before .before .before .before .before .before .before .before .before .before .before .before .read-tables .ensures) (not-false _ (c .before .before .before .before .before .before .before .before .before .before .if2 .left)) (small-file _ (recordings [] []) true true _ (c .before .before .before .before .before .before .before .before .before .before .before .before .before .before .before .before .size-ok .ensures) (c .before .before .before .before .before .before .before .before .before .before .before .before .before .before .before .if1 .left)), counts-known _ _ _ _ _ (c .before .before .before .before .before .before .before .before .before .before .before .before .before .before .before .before .size-ok .ensures) (c .before .before .before .before .before .before .before .before .before .before .before .before .before .before .before .if1 .left) _ _ _ (c .before .before .before .before .before .before .before .before .before .before .before .before .before .read-tables .ensures) (c .before .before .before .before .before .before .before .before .before .before .if2 .left) _ (c .before .before .before .before .first-no .ensures) (c .before .before .before .if3 .left))
+scene-of-requires c κs = (read-low _ _ _ _ (c .before .before .before .before .before .before .before .before .before .before .before .before .before .read-tables .ensures) (not-false _ (c .before .before .before .before .before .before .before .before .before .before .if2 .left)) (small-file _ (recordings [] []) true true _ (c .before .before .before .before .before .before .before .before .before .before .before .before .before .before .before .before .size-ok .ensures) (c .before .before .before .before .before .before .before .before .before .before .before .before .before .before .before .if1 .left)), (counts-known _ _ _ _ _ (c .before .before .before .before .before .before .before .before .before .before .before .before .before .before .before .before .size-ok .ensures) (c .before .before .before .before .before .before .before .before .before .before .before .before .before .before .before .if1 .left) _ _ _ (c .before .before .before .before .before .before .before .before .before .before .before .before .before .read-tables .ensures) (c .before .before .before .before .before .before .before .before .before .before .if2 .left) _ (c .before .before .before .before .first-no .ensures) (c .before .before .before .if3 .left), placings-known _ _ _ _ _ (c .before .before .before .before .before .before .before .before .before .before .before .before .before .before .before .before .size-ok .ensures) (c .before .before .before .before .before .before .before .before .before .before .before .before .before .before .before .if1 .left) _ _ _ (c .before .before .before .before .before .before .before .before .before .before .before .before .before .read-tables .ensures) (c .before .before .before .before .before .before .before .before .before .before .if2 .left) _ (c .before .before .before .before .first-no .ensures) (c .before .before .before .if3 .left)))
 
 returns-4 : tie.Need-returns-4
 returns-4 c = answered-0 _ _ _ _ _ (c .before .before .before .before .before .before .before .before .before .before .before .before .before .before .before .before .before .size-ok .ensures) (c .before .before .before .before .before .before .before .before .before .before .before .before .before .before .before .before .if1 .left) _ _ _ (c .before .before .before .before .before .before .before .before .before .before .before .before .before .before .read-tables .ensures) (c .before .before .before .before .before .before .before .before .before .before .before .if2 .left) _ (c .before .before .before .before .before .first-no .ensures) (c .before .before .before .before .if3 .left) _ (c .scene-of .ensures)

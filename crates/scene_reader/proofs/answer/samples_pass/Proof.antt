@@ -27,19 +27,19 @@ samples-ok-requires-2 c κs = search needs
 
 returns : tie.Need-returns
 unfolding byPlaces
-returns c = passes-at _ _ _ _ _ _ 5 _ _ (omega arith) (search needs)
+returns c = passes-at _ _ _ _ _ _ 6 _ _ (omega arith) (search needs)
 
 returns-2 : tie.Need-returns-2
 unfolding byPlaces
-returns-2 c = passes-at _ _ _ _ _ _ 6 _ _ (omega arith) (search needs)
+returns-2 c = passes-at _ _ _ _ _ _ 7 _ _ (omega arith) (search needs)
 
 returns-3 : tie.Need-returns-3
 unfolding byPlaces
-returns-3 c = passes-at _ _ _ _ _ _ 7 _ _ (omega arith) (search needs)
+returns-3 c = passes-at _ _ _ _ _ _ 8 _ _ (omega arith) (search needs)
 
 returns-4 : tie.Need-returns-4
 unfolding byPlaces
-returns-4 c = passes-at _ _ _ _ _ _ 8 _ _ (omega arith) (search needs)
+returns-4 c = passes-at _ _ _ _ _ _ 9 _ _ (omega arith) (search needs)
 
 pub samples-pass-spec : {M : Type 1} → statement M
 samples-pass-spec =

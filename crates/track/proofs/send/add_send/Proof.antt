@@ -12,7 +12,8 @@ use Rattle.frame.specs.declared.frame.Frame.{Frame}
 use Rattle.frame.specs.Frame.{added, scaled}
 use Rattle.frame.specs.Layout.{scratch, frameAt, withFirst}
 use Rattle.frame.proofs.laws.Layout.{first-zero, first-put, first-end}
-use Rattle.track.proofs.laws.Steady.{factorOf, sentEach, send-each}
+use Rattle.track_volume.proofs.laws.Steady.{factorOf}
+use Rattle.track.proofs.laws.Steady.{sentEach, send-each}
 use Rattle.track.proofs.send.add_send.Statement.{statement}
 use Rattle.track.proofs.send.add_send.Tie as tie
 

@@ -11,7 +11,8 @@ use Rattle.frame.specs.declared.frame.Frame.{Frame}
 use Rattle.frame.specs.Frame.{scaled}
 use Rattle.frame.specs.Layout.{scratch, withFirst}
 use Rattle.frame.proofs.laws.Layout.{first-zero, first-put, first-end}
-use Rattle.track.proofs.laws.Steady.{factorOf, scaledEach, level-steady, level-each}
+use Rattle.track_volume.proofs.laws.Steady.{factorOf}
+use Rattle.track.proofs.laws.Steady.{scaledEach, level-steady, level-each}
 use Rattle.track.proofs.send.apply_level.Statement.{statement}
 use Rattle.track.proofs.send.apply_level.Tie as tie
 

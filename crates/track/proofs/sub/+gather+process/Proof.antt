@@ -19,9 +19,10 @@ use Rattle.frame.specs.Frame.{zeroSample}
 use Rattle.frame.specs.Layout.{scratch, withFrames}
 use Rattle.frame.specs.Running.{AllRunning}
 use Rattle.chunk.specs.Chunk.{LevelInRange, trackRow}
+use Rattle.spatial.specs.Spatial.{PlacingIn}
 use Rattle.chunk.specs.Flat.{chunkFrom}
 use Rattle.track.specs.Owners.{subTrackLinks}
-use Rattle.track.specs.Sub.{trackScaled, sumSet, withSubSends}
+use Rattle.track.specs.Sub.{trackPlacedScaled, sumSet, withSubSends}
 use Rattle.frame.proofs.laws.Layout.{kept}
 use Rattle.frame.proofs.laws.Turn.{frames-steps, turn-length}
 use Rattle.track.proofs.laws.Running.{zero-silent, running-silent, running-track}
@@ -43,7 +44,7 @@ use Rattle.links.proofs.last_line.Reads as last-line-reads
 use Rattle.links.proofs.line_before.Reads as line-before-reads
 use Rattle.track.proofs.sounds.add_sounds.Reads as add-sounds-reads
 use Rattle.track.proofs.sub.add_routes.Reads as add-routes-reads
-use Rattle.track.proofs.sub.apply_volume.Reads as apply-volume-reads
+use Rattle.track_volume.proofs.apply_placing_and_volume.Reads as apply-placing-and-volume-reads
 use Rattle.track.proofs.sub.+gather+process.{statement}
 use Rattle.track.proofs.sub.+gather+process.Tie.{close}
 
@@ -310,8 +311,8 @@ process-element-copy-out-frames : (t : ℕ) → process-lts.Need-element-copy-ou
   track-at-reads.Learnt,
   gather-below t,
   gather.Post,
-  apply-volume-reads.Asked,
-  apply-volume-reads.Learnt,
+  apply-placing-and-volume-reads.Asked,
+  apply-placing-and-volume-reads.Learnt,
   add-routes-reads.Asked,
   add-routes-reads.Learnt,
   add-frames-reads.Asked,
@@ -324,8 +325,8 @@ process-sub-track-at : (t : ℕ) → process-lts.Need-sub-track-at (
   track-at-reads.Learnt,
   gather-below t,
   gather.Post,
-  apply-volume-reads.Asked,
-  apply-volume-reads.Learnt,
+  apply-placing-and-volume-reads.Asked,
+  apply-placing-and-volume-reads.Learnt,
   add-routes-reads.Asked,
   add-routes-reads.Learnt,
   add-frames-reads.Asked,
@@ -338,8 +339,8 @@ process-track-at-requires : (t : ℕ) → process-lts.Need-track-at-requires (
   track-at-reads.Learnt,
   gather-below t,
   gather.Post,
-  apply-volume-reads.Asked,
-  apply-volume-reads.Learnt,
+  apply-placing-and-volume-reads.Asked,
+  apply-placing-and-volume-reads.Learnt,
   add-routes-reads.Asked,
   add-routes-reads.Learnt,
   add-frames-reads.Asked,
@@ -354,8 +355,8 @@ process-returns : (t : ℕ) → process-lts.Need-returns (
   track-at-reads.Learnt,
   gather-below t,
   gather.Post,
-  apply-volume-reads.Asked,
-  apply-volume-reads.Learnt,
+  apply-placing-and-volume-reads.Asked,
+  apply-placing-and-volume-reads.Learnt,
   add-routes-reads.Asked,
   add-routes-reads.Learnt,
   add-frames-reads.Asked,
@@ -378,8 +379,8 @@ process-returns-2 : (t : ℕ) → process-lts.Need-returns-2 (
   track-at-reads.Learnt,
   gather-below t,
   gather.Post,
-  apply-volume-reads.Asked,
-  apply-volume-reads.Learnt,
+  apply-placing-and-volume-reads.Asked,
+  apply-placing-and-volume-reads.Learnt,
   add-routes-reads.Asked,
   add-routes-reads.Learnt,
   add-frames-reads.Asked,
@@ -404,8 +405,8 @@ process-sub-gather : (t : ℕ) → process-lts.Need-sub-gather (
   track-at-reads.Learnt,
   gather-below t,
   gather.Post,
-  apply-volume-reads.Asked,
-  apply-volume-reads.Learnt,
+  apply-placing-and-volume-reads.Asked,
+  apply-placing-and-volume-reads.Learnt,
   add-routes-reads.Asked,
   add-routes-reads.Learnt,
   add-frames-reads.Asked,
@@ -418,8 +419,8 @@ process-slice-aggregate-gather : (t : ℕ) → process-lts.Need-slice-aggregate-
   track-at-reads.Learnt,
   gather-below t,
   gather.Post,
-  apply-volume-reads.Asked,
-  apply-volume-reads.Learnt,
+  apply-placing-and-volume-reads.Asked,
+  apply-placing-and-volume-reads.Learnt,
   add-routes-reads.Asked,
   add-routes-reads.Learnt,
   add-frames-reads.Asked,
@@ -432,8 +433,8 @@ process-gather-requires : (t : ℕ) → process-lts.Need-gather-requires (
   track-at-reads.Learnt,
   gather-below t,
   gather.Post,
-  apply-volume-reads.Asked,
-  apply-volume-reads.Learnt,
+  apply-placing-and-volume-reads.Asked,
+  apply-placing-and-volume-reads.Learnt,
   add-routes-reads.Asked,
   add-routes-reads.Learnt,
   add-frames-reads.Asked,
@@ -448,34 +449,34 @@ process-gather-requires t c κs =
     let ok = pre .1 .0 in
     (omega (arith, start .pre .0, c .before .before .before .before .if1 .left), (pre .0, (ok, (pre .1 .1 .0, (pre .1 .1 .1 .0, (start .pre .1 .1 .1 .1 .1 .0, (omega (arith, ok .short), (start .pre .1 .1 .1 .1 .1 .1 .1 .0, zero-silent scratchPlaces (chunk .frames) (omega (arith, ok .short))))))))))
 
-process-slice-aggregate-apply-volume : (t : ℕ) → process-lts.Need-slice-aggregate-apply-volume (
+process-slice-aggregate-apply-placing-and-volume : (t : ℕ) → process-lts.Need-slice-aggregate-apply-placing-and-volume (
   track-at-reads.Asked,
   track-at-reads.Learnt,
   gather-below t,
   gather.Post,
-  apply-volume-reads.Asked,
-  apply-volume-reads.Learnt,
+  apply-placing-and-volume-reads.Asked,
+  apply-placing-and-volume-reads.Learnt,
   add-routes-reads.Asked,
   add-routes-reads.Learnt,
   add-frames-reads.Asked,
   add-frames-reads.Learnt,
 ) (process-at t) process.Post
-process-slice-aggregate-apply-volume t c = search needs
+process-slice-aggregate-apply-placing-and-volume t c = search needs
 
-process-apply-volume-requires : (t : ℕ) → process-lts.Need-apply-volume-requires (
+process-apply-placing-and-volume-requires : (t : ℕ) → process-lts.Need-apply-placing-and-volume-requires (
   track-at-reads.Asked,
   track-at-reads.Learnt,
   gather-below t,
   gather.Post,
-  apply-volume-reads.Asked,
-  apply-volume-reads.Learnt,
+  apply-placing-and-volume-reads.Asked,
+  apply-placing-and-volume-reads.Learnt,
   add-routes-reads.Asked,
   add-routes-reads.Learnt,
   add-frames-reads.Asked,
   add-frames-reads.Learnt,
 ) (process-at t) process.Post
 unfolding ofBits ofInt
-process-apply-volume-requires t c κs =
+process-apply-placing-and-volume-requires t c κs =
     let start = c .before .before .before .before .before .before .before .before .before .before .before .before .before .before .before .before in
     let args = start .args in
     let chunk = chunkFrom (args .places .now) (args .levels .now) (args .amplitudes .now) in
@@ -490,15 +491,16 @@ process-apply-volume-requires t c κs =
     let gathered = kept L (sumSet d chunk samples line) n silent (made .0) in
     let lines = start .pre .1 .1 .1 .1 .1 .0 in
     let level : (f : ChunkTrack → Level) → LevelInRange (f (trackRow chunk (line - 1))) → LevelInRange (f track) = λ f. subst (λ (t : ChunkTrack). LevelInRange (f t)) (sym (c .before .before .before .before .before .before .before .before .before .before .track-at .ensures)) in
-    (start .pre .1 .0, ((ok .short, omega (arith, gathered, ok .short)), ((level (λ t. t .volume) (ok .volumes (line - 1) (omega (arith, lines .0, lines .1))), level (λ t. t .fade) (ok .fades (line - 1) (omega (arith, lines .0, lines .1)))), start .pre .1 .1 .1 .1 .0)))
+    let placing : PlacingIn (trackRow chunk (line - 1) .placing) → PlacingIn (track .placing) = subst (λ (t : ChunkTrack). PlacingIn (t .placing)) (sym (c .before .before .before .before .before .before .before .before .before .before .track-at .ensures)) in
+    (start .pre .1 .0, ((ok .short, omega (arith, gathered, ok .short)), ((level (λ t. t .volume) (ok .volumes (line - 1) (omega (arith, lines .0, lines .1))), level (λ t. t .fade) (ok .fades (line - 1) (omega (arith, lines .0, lines .1)))), (placing (ok .placings (line - 1) (omega (arith, lines .0, lines .1))), start .pre .1 .1 .1 .1 .0))))
 
 process-slice-aggregate-add-routes : (t : ℕ) → process-lts.Need-slice-aggregate-add-routes (
   track-at-reads.Asked,
   track-at-reads.Learnt,
   gather-below t,
   gather.Post,
-  apply-volume-reads.Asked,
-  apply-volume-reads.Learnt,
+  apply-placing-and-volume-reads.Asked,
+  apply-placing-and-volume-reads.Learnt,
   add-routes-reads.Asked,
   add-routes-reads.Learnt,
   add-frames-reads.Asked,
@@ -511,8 +513,8 @@ process-add-routes-requires : (t : ℕ) → process-lts.Need-add-routes-requires
   track-at-reads.Learnt,
   gather-below t,
   gather.Post,
-  apply-volume-reads.Asked,
-  apply-volume-reads.Learnt,
+  apply-placing-and-volume-reads.Asked,
+  apply-placing-and-volume-reads.Learnt,
   add-routes-reads.Asked,
   add-routes-reads.Learnt,
   add-frames-reads.Asked,
@@ -532,7 +534,7 @@ process-add-routes-requires t c κs =
     let made = c .before .before .before .before .before .before .before .before .gather .ensures in
     let track = c .before .before .before .before .before .before .before .before .before .before .before .before .before .before .track-at .result in
     let gathered = kept L (sumSet d chunk samples line) n silent (made .0) in
-    let scaled = kept L (trackScaled track n) n _ (c .before .before .before .apply-volume .ensures) in
+    let scaled = kept L (trackPlacedScaled track n) n _ (c .before .before .before .apply-placing-and-volume .ensures) in
     (ok, (omega (arith, gathered, scaled, ok .short), ap length (made .1) ∙ onSends-length n (withSubSends d chunk samples line) (args .sends .now) ∙ start .pre .1 .1 .1 .1 .1 .1 .1 .0))
 
 process-slice-aggregate-add-frames : (t : ℕ) → process-lts.Need-slice-aggregate-add-frames (
@@ -540,8 +542,8 @@ process-slice-aggregate-add-frames : (t : ℕ) → process-lts.Need-slice-aggreg
   track-at-reads.Learnt,
   gather-below t,
   gather.Post,
-  apply-volume-reads.Asked,
-  apply-volume-reads.Learnt,
+  apply-placing-and-volume-reads.Asked,
+  apply-placing-and-volume-reads.Learnt,
   add-routes-reads.Asked,
   add-routes-reads.Learnt,
   add-frames-reads.Asked,
@@ -554,8 +556,8 @@ process-add-frames-requires : (t : ℕ) → process-lts.Need-add-frames-requires
   track-at-reads.Learnt,
   gather-below t,
   gather.Post,
-  apply-volume-reads.Asked,
-  apply-volume-reads.Learnt,
+  apply-placing-and-volume-reads.Asked,
+  apply-placing-and-volume-reads.Learnt,
   add-routes-reads.Asked,
   add-routes-reads.Learnt,
   add-frames-reads.Asked,
@@ -575,7 +577,7 @@ process-add-frames-requires t c κs =
     let made = c .before .before .before .before .before .before .before .before .before .before .before .before .before .gather .ensures in
     let track = c .before .before .before .before .before .before .before .before .before .before .before .before .before .before .before .before .before .before .before .track-at .result in
     let gathered = kept L (sumSet d chunk samples line) n silent (made .0) in
-    let scaled = kept L (trackScaled track n) n _ (c .before .before .before .before .before .before .before .before .apply-volume .ensures) in
+    let scaled = kept L (trackPlacedScaled track n) n _ (c .before .before .before .before .before .before .before .before .apply-placing-and-volume .ensures) in
     (start .pre .1 .1 .1 .1 .1 .1 .0, omega (arith, gathered, scaled, ok .short))
 
 process-same-length : (t : ℕ) → process-lts.Need-same-length (
@@ -583,8 +585,8 @@ process-same-length : (t : ℕ) → process-lts.Need-same-length (
   track-at-reads.Learnt,
   gather-below t,
   gather.Post,
-  apply-volume-reads.Asked,
-  apply-volume-reads.Learnt,
+  apply-placing-and-volume-reads.Asked,
+  apply-placing-and-volume-reads.Learnt,
   add-routes-reads.Asked,
   add-routes-reads.Learnt,
   add-frames-reads.Asked,
@@ -597,8 +599,8 @@ process-same-length-2 : (t : ℕ) → process-lts.Need-same-length-2 (
   track-at-reads.Learnt,
   gather-below t,
   gather.Post,
-  apply-volume-reads.Asked,
-  apply-volume-reads.Learnt,
+  apply-placing-and-volume-reads.Asked,
+  apply-placing-and-volume-reads.Learnt,
   add-routes-reads.Asked,
   add-routes-reads.Learnt,
   add-frames-reads.Asked,
@@ -611,8 +613,8 @@ process-returns-3 : (t : ℕ) → process-lts.Need-returns-3 (
   track-at-reads.Learnt,
   gather-below t,
   gather.Post,
-  apply-volume-reads.Asked,
-  apply-volume-reads.Learnt,
+  apply-placing-and-volume-reads.Asked,
+  apply-placing-and-volume-reads.Learnt,
   add-routes-reads.Asked,
   add-routes-reads.Learnt,
   add-frames-reads.Asked,
@@ -634,8 +636,8 @@ process-returns-3 t c =
     let moves = ap (λ (t : ChunkTrack). t .advancing) (sym read) ∙ not-false _ (c .before .before .before .before .before .before .before .before .before .before .before .before .before .before .before .before .before .before .before .if2 .left) in
     let made = c .before .before .before .before .before .before .before .before .before .before .before .before .before .before .before .before .gather .ensures in
     let sum = c .before .before .before .before .before .before .before .before .before .before .before .before .before .before .before .before .gather .last .1 .1 .1 .1 .1 .1 .1 .1 .1 .1 .1 .0 in
-    let scaled = c .before .before .before .before .before .before .before .before .before .before .before .apply-volume .ensures ∙ ap (λ (t : ChunkTrack). withFrames L (trackScaled t n) sum) read in
-    let out = c .before .before .before .before .before .before .before .before .before .before .before .apply-volume .last .0 in
+    let scaled = c .before .before .before .before .before .before .before .before .before .before .before .apply-placing-and-volume .ensures ∙ ap (λ (t : ChunkTrack). withFrames L (trackPlacedScaled t n) sum) read in
+    let out = c .before .before .before .before .before .before .before .before .before .before .before .apply-placing-and-volume .last .0 in
     let has = track-mixed (args .depth) d chunk samples line deep silent (omega (arith, ok .short)) moves (made .0) scaled in
     (track-added (args .depth) chunk samples line (args .to .now) out has (c .before .before .add-frames .ensures), sends-mixed (args .depth) d chunk samples line (args .sends .now) deep out (ok .short) (start .pre .1 .1 .1 .1 .1 .1 .1 .0) moves has (made .1) (c .before .before .before .before .before .before .before .add-routes .ensures))
 
@@ -669,8 +671,8 @@ pub +gather+process-spec : {M : Type 1} → statement M
       track-at-reads.Learnt,
       gather-below t,
       gather.Post,
-      apply-volume-reads.Asked,
-      apply-volume-reads.Learnt,
+      apply-placing-and-volume-reads.Asked,
+      apply-placing-and-volume-reads.Learnt,
       add-routes-reads.Asked,
       add-routes-reads.Learnt,
       add-frames-reads.Asked,
@@ -686,8 +688,8 @@ pub +gather+process-spec : {M : Type 1} → statement M
     (process-sub-gather t)
     (process-slice-aggregate-gather t)
     (process-gather-requires t)
-    (process-slice-aggregate-apply-volume t)
-    (process-apply-volume-requires t)
+    (process-slice-aggregate-apply-placing-and-volume t)
+    (process-apply-placing-and-volume-requires t)
     (process-slice-aggregate-add-routes t)
     (process-add-routes-requires t)
     (process-slice-aggregate-add-frames t)

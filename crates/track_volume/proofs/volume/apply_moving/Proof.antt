@@ -11,9 +11,9 @@ use Rattle.frame.specs.declared.frame.Frame.{Frame}
 use Rattle.frame.specs.Frame.{scaled}
 use Rattle.frame.specs.Layout.{scratch, withFirst}
 use Rattle.frame.proofs.laws.Layout.{first-zero, first-put, first-end}
-use Rattle.track.proofs.laws.Steady.{product, factorOf, scaledTwice, track-each}
-use Rattle.track.proofs.sub.apply_moving.Statement.{statement}
-use Rattle.track.proofs.sub.apply_moving.Tie as tie
+use Rattle.track_volume.proofs.laws.Steady.{product, factorOf, scaledTwice, track-each}
+use Rattle.track_volume.proofs.volume.apply_moving.Statement.{statement}
+use Rattle.track_volume.proofs.volume.apply_moving.Tie as tie
 
 -- what the factors' array holds at first
 abbrev empty : List Float

@@ -1,9 +1,9 @@
 -- Three ways to scale by volume times fade, by whether each stands still: each comes to `trackScaled` (`laws`, Steady).
 use mathlib.Core.Path.{sym, _∙_}
 use borrow.Author.Needs.{needs}
-use Rattle.track.proofs.laws.Steady.{track-steady}
-use Rattle.track.proofs.sub.apply_volume.Statement.{statement}
-use Rattle.track.proofs.sub.apply_volume.Tie as tie
+use Rattle.track_volume.proofs.laws.Steady.{track-steady}
+use Rattle.track_volume.proofs.volume.apply_volume.Statement.{statement}
+use Rattle.track_volume.proofs.volume.apply_volume.Tie as tie
 
 is-steady-requires : tie.Need-is-steady-requires
 is-steady-requires c κs = search needs
