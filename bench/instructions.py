@@ -1,7 +1,7 @@
 #!/usr/bin/env python3
 """Instructions a frame of each side, by callgrind: the same on every run, whatever the machine does.
 
-usage: bench/instructions.py [SCENE...]     (steady fading single paused, or growth-1 … growth-32)
+usage: bench/instructions.py [SCENE...]     (steady fading single paused placed, or growth-1 … growth-32)
 
 Counted is what the clock times: `room_desk_render`, and of kira the harness's `Show::render`, in a show of 64 blocks. The
 C library is told to clear and copy by plain instructions: callgrind counts `rep stosb` as one instruction a byte.
@@ -36,9 +36,10 @@ def main(scenes):
         room, powf, table = (a_frame(side, scene) for side in SIDES)
         ours[scene] = room
         print(f"{scene:10} {room:10.1f} {powf:10.1f} {table:11.1f} {powf / room:10.3f}", flush=True)
-    if "steady" in ours and "paused" in ours:
-        print(f"paused/steady, room_desk: {ours['paused'] / ours['steady']:.3f}")
+    for scene in ("paused", "placed"):
+        if "steady" in ours and scene in ours:
+            print(f"{scene}/steady, room_desk: {ours[scene] / ours['steady']:.3f}")
 
 
 if __name__ == "__main__":
-    main(sys.argv[1:] or ["steady", "fading", "single", "paused"])
+    main(sys.argv[1:] or ["steady", "fading", "single", "paused", "placed"])

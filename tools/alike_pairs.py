@@ -16,7 +16,9 @@ import pairs  # noqa: E402
 
 CRATE = ROOT / "crates/test_alike_pairs"
 SEED, EACH, TRIES = 12, 3, 20000
-TABLES = ("head", "clocks", "tracks", "sends", "routes", "sounds", "orders")
+# control pairs that no output tells apart: tools/render_vectors.py asks that all do
+UNHEARD = {("loud-volume-order", 396)}
+TABLES = tuple(pairs.NAMES)
 
 
 def rows(scene):
@@ -48,6 +50,13 @@ def sends_inside(pair):
     return any(row[0] in pairs.below(scene, t) for t in held for row in scene.routes)
 
 
+def placed_outside(pair):
+    """A spatial track outside, and a listener."""
+    scene, chosen = pair.scenes[0], pair.chosen[0]
+    inside = set(chosen).union(*(pairs.below(scene, t) for t in chosen))
+    return scene.listener and any(row[0] not in inside for row in scene.placings)
+
+
 FEATURES = {
     "both kinds mixed": lambda p: silenced(p) == {"muted", "held"},
     "other line numbers": lambda p: p.chosen[0] != p.chosen[1],
@@ -55,6 +64,9 @@ FEATURES = {
     "other sample lengths": lambda p: len(p.scenes[0].samples) != len(p.scenes[1].samples),
     "other visitor's lengths": lambda p: len(p.scenes[0].visitor) != len(p.scenes[1].visitor),
     "sounds inside from other buffers": lambda p: pairs.origins(p.scenes[0]) != pairs.origins(p.scenes[1]),
+    "a spatial track outside": placed_outside,
+    "other poses of silent tracks": lambda p: p.scenes[0].listener and pairs.poses(p, 0, True) != pairs.poses(p, 1, True),
+    "other poses below silent tracks": lambda p: p.scenes[0].listener and pairs.poses(p, 0, False) != pairs.poses(p, 1, False),
     "nothing chosen": lambda p: not p.chosen[0],
     "a held track whose children have sends": sends_inside,
 }
@@ -63,8 +75,8 @@ FEATURES = {
 def corner_scene(inside, samples, visitor):
     """Tracks by name, four of which are silent, each at a corner of the words: `deep` is muted at depth 4 and has a volume order of exactly -60 dB,
     `muted` is not held, `held` is at depth 3 and not muted, `below` is held below a track that is paused itself. `inside` has the lines that may
-    differ: tracks by (name, parent), and sounds by (track, first, count, from). The last sound outside is from `inside["last"]`: the visitor has
-    its frames too."""
+    differ: tracks by (name, parent), sounds by (track, first, count, from), and placings by (track, pose). The last sound outside is from
+    `inside["last"]`: the visitor has its frames too. `a` is spatial."""
     outside = [("a", None, 0), ("b", "a", 0), ("c", "b", 0), ("deep", "c", -60000), ("muted", "a", -60000), ("held", "b", 0), ("paused", None, 0)]
     outside.append(("below", "paused", 0))
     lines = []
@@ -80,6 +92,8 @@ def corner_scene(inside, samples, visitor):
         sends=[[0]],
         routes=[[line["b"], 1, -2000], [line["muted"], 1, 0]],
         sounds=[[line[track], *place] for track, *place in sounds],
+        listener=[[0, 1000, -500]],
+        placings=[[line[track], *pose] for track, *pose in inside["placings"] + [("a", 500, 1000, 0, 100, 9000)]],
         orders=pauses + volumes,
         samples=[pairs.bits(x / 16) for x in samples],
         visitor=[pairs.bits(x / 16) for x in visitor],
@@ -91,9 +105,11 @@ def corners():
     """A pair with all of them at once, so that a definition that asks more of silent tracks than it should says no to it."""
     heard = [8, -4, 3, 5, -7, 2, 6, 1, -2, 4, 9, -3]
     inside = {"tracks": [("x", "muted")], "sounds": [("deep", 0, 4, 0), ("x", 1, 3, 1), ("held", 2, 2, 0)], "last": (1, 5, 0)}
+    inside["placings"] = [("x", 0, 0, 0, 0, 1), ("held", 5, 5, 5, 2, 7)]
     one = corner_scene(inside, heard + [1, 1], [5, 5, 5, 5, 5, 5, 5, 5])
     tracks = [("x", "muted"), ("y", "held"), ("z", "below")]
     inside = {"tracks": tracks, "sounds": [("muted", 5, 2, 1), ("y", 6, 2, 0), ("z", 0, 6, 1), ("below", 6, 1, 0)], "last": (2, 5, 1)}
+    inside["placings"] = [("muted", -1000000, 0, 0, 0, 1000000), ("held", 5, 5, 5, 2, 8), ("z", 1, 2, 3, 4, 5)]
     other = corner_scene(inside, heard + [16, -16, 15, 7], [1, 2, 3, 4] + heard[2:])
     return pairs.Pair([one[0], other[0]], [one[1], other[1]])
 
@@ -122,7 +138,7 @@ def stored():
         for n in range(400):
             pair = pairs.from_seed(SEED, n, kind)
             size = sum(map(work, pair.scenes))
-            if best is None or size < best[0]:
+            if (best is None or size < best[0]) and (kind, n) not in UNHEARD:
                 best = (size, pair)
         assert not pairs.alike(best[1])
         controls.append((kind, best[1]))
@@ -190,7 +206,7 @@ use Rattle.laws.specs.Loop.{upto, changed}
 use Rattle.laws.specs.Kept.{rank, keptOf}
 use Rattle.scene_tables.specs.Bytes.{every}
 use Rattle.scene_questions.specs.Questions.{parentOf}
-use Rattle.noninterference.specs.Removed.{newLine, insideWithin, inside, removedTrack, namesRemoved, removedRoute, removedSound, removedOrder, leftTables, renumbered, renumberedOrder, linesLeft}
+use Rattle.noninterference.specs.Removed.{newLine, insideWithin, inside, removedTrack, namesRemoved, removedRoute, removedSound, removedPlacing, removedOrder, leftTables, renumbered, renumberedOrder, linesLeft}
 use Rattle.noninterference.specs.Silent.{silentVolume, names, muted, held, pausesOrResumes, isHolding}
 use Rattle.noninterference.specs.Alike.{same, unplaced, sameTables, chosenLeft, framesLeft, sameBits, silentChoice, alike}
 use Rattle.test_alike_pairs.specs.Side.{choiceOf, alikePair}
@@ -199,7 +215,7 @@ use Rattle.test_alike_pairs.specs.Computed.{Each}
 """
 UNFOLDED = (
     "alikePair choiceOf recording alike sameTables same unplaced chosenLeft framesLeft sameBits silentChoice toBits ofBits leftTables linesLeft keptOf changed "
-    "renumbered renumberedOrder newLine rank insideWithin inside removedTrack removedRoute removedSound removedOrder namesRemoved parentOf muted silentVolume names "
+    "renumbered renumberedOrder newLine rank insideWithin inside removedTrack removedRoute removedSound removedPlacing removedOrder namesRemoved parentOf muted silentVolume names "
     "held pausesOrResumes isHolding every upto"
 )
 

@@ -36,22 +36,30 @@ def joined(cases):
     return b"".join(struct.pack("<5I", kind, *map(len, files), length) + b"".join(files) for kind, *files, length in cases)
 
 
-def answers(program, cases):
-    """A program's answers to a list of cases: number, bits of the samples."""
+def raw_answers(program, cases):
+    """A program's answers to a list of cases, each as its bytes: number, count, the samples' bits."""
     out = subprocess.run(program, input=joined(cases), stdout=subprocess.PIPE, check=True).stdout
     at, found = 0, []
     while at < len(out):
-        number, count = struct.unpack_from("<2I", out, at)
-        found.append((number, struct.unpack_from(f"<{count}I", out, at + 8)))
-        at += 8 + 4 * count
+        end = at + 8 + 4 * struct.unpack_from("<I", out, at + 4)[0]
+        found.append(out[at:end])
+        at = end
     assert len(found) == len(cases), (len(found), len(cases))
     return found
 
 
-def as_library(oracle, cases):
+def answers(program, cases):
+    """The same as numbers: number, bits of the samples."""
+    each = (struct.unpack(f"<{len(answer) // 4}I", answer) for answer in raw_answers(program, cases))
+    return [(number, tuple(samples)) for number, _, *samples in each]
+
+
+def as_library(oracle, cases, most=200):
     """Every case as one of the library. What the program is asked has the length that it answers with; a refused one keeps 0."""
-    asked = answers([oracle, "batch"], cases)
-    return [(1, *files, n if k == 1 else len(samples)) for (k, *files, n), (_, samples) in zip(cases, asked)]
+    program = [case for case in cases if case[0] == 0]
+    parts = (raw_answers([oracle, "batch"], program[at : at + most]) for at in range(0, len(program), most))
+    lengths = iter([(len(answer) - 8) // 4 for part in parts for answer in part])
+    return [(1, *files, length if kind == 1 else next(lengths)) for kind, *files, length in cases]
 
 
 def store(crate, files, check):

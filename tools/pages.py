@@ -3,7 +3,7 @@
 
     tools/pages.py PROGRAM ORACLE     the compiled render program (target/bin/render), and the oracle for numbers 10 and 11
 
-Of SCENE.md: each whole scene is accepted; the first prints what stands below it, and the second has the levels of the table.
+Of SCENE.md: each whole scene is accepted; the first prints what stands below it, and the others have the levels of their tables.
 Of REFUSALS.md: each example gets the number that it stands under.
 """
 import pathlib
@@ -16,6 +16,7 @@ import tempfile
 ROOT = pathlib.Path(__file__).resolve().parent.parent
 FIRST = [0.5, -0.25, 1.0, 0.0]
 SHOW = [0.25, 0.0] * 2048 + [0.0, 0.25] * 2048
+ROOM = [0.25, 0.0] * 256 + [0.0, 0.25] * 256
 program, oracle = (str(pathlib.Path(p).resolve()) for p in sys.argv[1:])
 wrong = 0
 
@@ -83,32 +84,37 @@ def refusal(scene, example):
     return text.split("\n")[1] if text.startswith("refused\n") else text
 
 
-def check_show(page, scene):
-    """The last frame of each block, to four places, next to the table's."""
-    rows = [line.split() for line in in_folder(scene, raw(SHOW), program).split("\n")[1:-1]]
+def check_show(page, scene, samples):
+    """The last frame of each block, to four places, next to the table's, which is the first behind the scene."""
+    rows = [line.split() for line in in_folder(scene, raw(samples), program).split("\n")[1:-1]]
     last = {}
     for block, place, bits in rows:
         last.setdefault(block, []).append(struct.unpack("<f", struct.pack("<I", int(bits)))[0])
-    for blocks, left, right in re.findall(r"^\| ([\d, ]+) \| ([\d.]+) \| ([\d.]+) \|", page, re.M):
+    table = page.split(scene)[1].split("\n## ")[0]
+    levels = re.findall(r"^\| ([\d, ]+) \| ([\d.]+) \| ([\d.]+) \|", table, re.M)
+    expect("a show's table has rows", levels != [], True)
+    for blocks, left, right in levels:
         for block in blocks.split(", "):
-            expect(f"block {block} of the show", [f"{x:.4f}" for x in last[block][-2:]], [left, right])
+            expect(f"block {block} of a show", [f"{x:.4f}" for x in last[block][-2:]], [left, right])
 
 
 def main():
     page = (ROOT / "docs/SCENE.md").read_text()
-    first, show = re.findall(r"^```scene\n(.*?)^```", page, re.M | re.S)
+    first, show, room = re.findall(r"^```scene\n(.*?)^```", page, re.M | re.S)
     printed, = re.findall(r"^```printed\n(.*?)^```", page, re.M | re.S)
     expect("the first scene", in_folder(first, raw(FIRST), program), printed)
-    files = (ROOT / "examples/first/scene.txt").read_text(), (ROOT / "examples/first/samples.raw").read_bytes()
-    expect("examples/first", list(files), [first, raw(FIRST)])
-    check_show(page, show)
+    for name, scene, samples in ("first", first, FIRST), ("room", room, ROOM):
+        folder = ROOT / "examples" / name
+        expect(str(folder), [(folder / "scene.txt").read_text(), (folder / "samples.raw").read_bytes()], [scene, raw(samples)])
+    check_show(page, show, SHOW)
+    check_show(page, room, ROOM)
     count = 0
     sections = re.split(r"^## ", (ROOT / "docs/REFUSALS.md").read_text(), flags=re.M)[1:]
     for section in (s for s in sections if int(re.match(r"\d+", s)[0]) <= 12):  # the scene's; those behind are about sound files
         for example in re.findall(r"Example: (.*?)(?=\.? Example:|\.?$)", section, re.M):
             count += 1
             expect(f"“{example}”", refusal(first, example), section.split(":")[0])
-    print(f"2 scenes and {count} refusals, {wrong} not as the pages say")
+    print(f"3 scenes and {count} refusals, {wrong} not as the pages say")
     sys.exit(1 if wrong else 0)
 
 

@@ -12,11 +12,13 @@ import argparse
 import pathlib
 import struct
 import sys
+from collections import Counter
+from dataclasses import dataclass, field
 
-from case_stream import answers, as_library, joined, made
+from case_stream import as_library, joined, made, raw_answers
 
 ROOT = pathlib.Path(__file__).resolve().parent.parent
-MOST = 200  # cases a run, so that streams stay small
+MOST = 200  # cases at a time, so that streams stay small
 
 
 def largest():
@@ -24,6 +26,7 @@ def largest():
     tracks = [(0 if t % 4 == 0 else t, -3000 - 10 * t) for t in range(32)]
     routes = [(r // 2 + 1, (r + r // 16) % 8 + 1, -6000) for r in range(64)]
     sounds = [(k % 33, 16 * k, 4096 - 16 * k, k % 2) for k in range(64)]
+    placings = [(t + 1, 1000 * t, -500 * t, 7 * t, 10 * t, 90000 + t) for t in range(32)]
     tables = (
         ("rate channels buffer block blocks volume", [(48000, 8, 128, 512, 1024, 0)]),
         ("unit speed ticking", [(1, 2000, 1)] * 8),
@@ -31,11 +34,54 @@ def largest():
         ("volume", [(-2000,)] * 8),
         ("track send volume", routes),
         ("track first count from", sounds),
+        ("x y z", [(1234, -5678, 910)]),
+        ("track x y z near far", placings),
         ("block kind index volume clock when part millis easing power", []),
     )
     file = "\n".join(names + "\n" + "".join(" ".join(map(str, line)) + "\n" for line in lines) for names, lines in tables)
     house, visitor = (b"".join(struct.pack("<f", ((i * step) % 2001 - 1000) / 1000) for i in range(8192)) for step in (7919, 7907))
     return [(1, file.encode(), house, visitor, 512 * 1024 * 8)]
+
+
+@dataclass
+class Tally:
+    """What a comparison found. `apart`: pairs whose two answers differ."""
+
+    cases: int = 0
+    samples: int = 0
+    differ: int = 0
+    apart: int = 0
+    numbers: Counter = field(default_factory=Counter)
+
+    def listed(self):
+        return ", ".join(f"{n}: {self.numbers[n]}" for n in sorted(self.numbers))
+
+
+def keep(case):
+    """The first case that differs is kept."""
+    path = ROOT / "target/differs"
+    if not path.exists():
+        path.parent.mkdir(exist_ok=True)
+        path.write_bytes(joined([case]))
+
+
+def compare(oracle, driver, cases, paired=False):
+    """The library's cases through both programs; of pairs, both of a pair in turn."""
+    tally = Tally()
+    for first in range(0, len(cases), MOST):
+        part = cases[first : first + MOST]
+        theirs, ours = raw_answers([oracle, "batch"], part), raw_answers([driver], part)
+        for case, expected, found in zip(part, theirs, ours, strict=True):
+            number, samples = struct.unpack_from("<2I", expected)
+            tally.cases += 1
+            tally.samples += samples
+            tally.numbers[number] += 1
+            if expected != found:
+                tally.differ += 1
+                keep(case)
+        if paired:
+            tally.apart += sum(one != other for one, other in zip(ours[::2], ours[1::2]))
+    return tally
 
 
 def main():
@@ -48,32 +94,19 @@ def main():
     parser.add_argument("--damaged", type=int, default=2000)
     parser.add_argument("--pairs", type=int, default=2000)
     options = parser.parse_args()
-    differ = 0
+    (ROOT / "target/differs").unlink(missing_ok=True)
+    wrong = 0
     kinds = (("scenes", options.scenes), ("long", options.long), ("damaged", options.damaged), ("pairs", options.pairs), ("largest", 1))
     for kind, count in kinds:
         if count == 0:
             continue
-        cases = largest() if kind == "largest" else made(kind, options.seed, count)
-        numbers, samples, wrong, apart = {}, 0, 0, 0
-        for first in range(0, len(cases), MOST):
-            part = as_library(options.oracle, cases[first : first + MOST])
-            theirs = answers([options.oracle, "batch"], part)
-            ours = answers([options.driver], part)
-            for case, a, b in zip(part, theirs, ours):
-                numbers[a[0]] = numbers.get(a[0], 0) + 1
-                samples += len(a[1])
-                if a != b:
-                    wrong += 1
-                    if wrong == 1 and differ == 0:
-                        (ROOT / "target").mkdir(exist_ok=True)
-                        (ROOT / "target/differs").write_bytes(joined([case]))
-            if kind == "pairs":
-                apart += sum(ours[i] != ours[i + 1] for i in range(0, len(ours), 2))
-        differ += wrong + apart
-        listed = ", ".join(f"{n}: {numbers[n]}" for n in sorted(numbers))
-        within = f", {apart} pairs apart" if kind == "pairs" else ""
-        print(f"{kind}: seed {options.seed}, {len(cases)} cases, {samples} samples, {wrong} differ{within}; numbers {listed}", flush=True)
-    sys.exit(differ != 0)
+        cases = largest() if kind == "largest" else as_library(options.oracle, made(kind, options.seed, count))
+        tally = compare(options.oracle, options.driver, cases, kind == "pairs")
+        wrong += tally.differ + tally.apart
+        within = f", {tally.apart} pairs apart" if kind == "pairs" else ""
+        print(f"{kind}: seed {options.seed}, {tally.cases} cases, {tally.samples} samples, {tally.differ} differ{within}; numbers {tally.listed()}", flush=True)
+    sys.exit(wrong != 0)
 
 
-main()
+if __name__ == "__main__":
+    main()

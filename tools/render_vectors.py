@@ -38,7 +38,9 @@ def marks(scene):
     """What a scene is an example of."""
     tables = tables_of(scene)
     found = {("channels", tables[0][0][1])} | {("from", sound[3]) for sound in tables[5]}
-    for order in tables[6]:
+    if tables[7]:
+        found.add(("spatial", "heard" if tables[6] else "without a listener"))
+    for order in tables[8]:
         found |= {("kind", order[1]), ("easing", order[8], order[9])}
         found |= {("start", "clock" if order[4] != "0" else "delay" if order[5] != "0" else "at once")}
     return found
@@ -49,7 +51,7 @@ def chosen(oracle):
     named = [case for case in as_library(oracle, named) if case[-1] <= 600 and sampled(case) <= 16384]
     command = [sys.executable, ROOT / "oracle/scripts/cases.py", "scenes", str(SEED), str(MADE)]
     made = as_library(oracle, split(subprocess.run(command, stdout=subprocess.PIPE, check=True).stdout))
-    made = [case for case in made if 0 < case[-1] <= 200 and sampled(case) <= 2400]
+    made = [case for case in made if 0 < case[-1] <= 200 and len(case[1]) + sampled(case) <= 3200]
     seen, picked, others = set().union(*(marks(case[1]) for case in named if case[-1])), [], []
     for case in made:
         new = marks(case[1]) - seen
@@ -59,7 +61,7 @@ def chosen(oracle):
     missing = {("channels", n) for n in "1238"} | {("kind", n) for n in "012345"} | {("easing", "0", "0")}
     missing |= {("easing", e, p) for e in "123" for p in "12345678"}
     missing |= {("start", how) for how in ("at once", "delay", "clock")}
-    missing |= {("from", n) for n in "01"}
+    missing |= {("from", n) for n in "01"} | {("spatial", how) for how in ("heard", "without a listener")}
     missing -= set().union(*(marks(case[1]) for case in cases if case[-1]))
     assert not missing, missing
     assert len(cases) >= 200, len(cases)

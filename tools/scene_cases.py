@@ -18,10 +18,14 @@ NAMES = [
     b"volume",
     b"track send volume",
     b"track first count from",
+    b"x y z",
+    b"track x y z near far",
     b"block kind index volume clock when part millis easing power",
 ]
-LIMITS = [(1, 1), (0, 8), (0, 32), (0, 8), (0, 64), (0, 64), (0, 128)]
+LIMITS = [(1, 1), (0, 8), (0, 32), (0, 8), (0, 64), (0, 64), (0, 1), (0, 32), (0, 128)]
 VOLUME = (-96000, 18000)
+COORDINATE = (-1000000, 1000000)
+DISTANCE = (0, 1000000)
 RANGES = [
     [(8000, 192000), (1, 8), (1, 256), (1, 512), (1, 1024), VOLUME],
     [(0, 2), (1, 60000000), (0, 1)],
@@ -29,8 +33,11 @@ RANGES = [
     [VOLUME],
     [None, None, VOLUME],
     [None, (0, 2147483647), (0, 2147483647), (0, 1)],
+    [COORDINATE] * 3,
+    [None, *[COORDINATE] * 3, DISTANCE, DISTANCE],
     [(0, 1023), (0, 5), None, VOLUME, None, (0, 3600000), (0, 999), (0, 3600000), (0, 3), (0, 8)],
 ]
+ORDERS = 8
 TARGETS = {1: 2, 2: 3, 3: 4, 4: 2, 5: 2}
 # what `test_scene` reads at once
 ROOM = 524288
@@ -92,12 +99,28 @@ def order(r, blocks, lines):
     return [r.below(blocks), kind, index, level, clock, when, part, millis, easing, power]
 
 
+def shuffled(r, items):
+    left, made = list(items), []
+    while left:
+        made.append(left.pop(r.below(len(left))))
+    return made
+
+
+def coordinates(r):
+    return [r.pick([0, *COORDINATE, r.among(*COORDINATE), r.among(-5000, 5000)]) for _ in range(3)]
+
+
+def placing(r, track):
+    near = r.pick([0, 999999, r.below(1000000), r.below(5000)])
+    return [track, *coordinates(r), near, r.pick([near + 1, 1000000, r.among(near + 1, 1000000)])]
+
+
 def scene(r):
     block, blocks, channels = r.among(1, 12), r.among(1, 6), r.among(1, 8)
     if r.chance(10):
         block, blocks = r.pick([1, 512]), r.pick([1, 1024])
     head = [r.pick([8000, 192000, 8192, 44100, r.among(8000, 192000)]), channels, r.among(1, 256), block, blocks, volume(r)]
-    lines = [1] + [count(r, t) for t in range(1, 7)]
+    lines = [1] + [count(r, t) for t in range(1, len(NAMES))]
     if lines[2] == 0 or lines[3] == 0:
         lines[4] = 0
     lines[4] = min(lines[4], lines[2] * lines[3])
@@ -123,7 +146,9 @@ def scene(r):
         [[volume(r)] for _ in range(lines[3])],
         [[a, b, volume(r)] for a, b in sorted(pairs)],
         sounds,
-        [order(r, blocks, lines) for _ in range(lines[6])],
+        [coordinates(r) for _ in range(lines[6])],
+        [placing(r, track) for track in shuffled(r, range(1, lines[2] + 1))[: lines[7]]],
+        [order(r, blocks, lines) for _ in range(lines[ORDERS])],
     ]
     both = [[r.pick([0.0, -0.0, 1.0, -1.0, 0.5, r.among(-1000, 1000) / 1000]) for _ in range(2 * n)] for n in frames]
     return tables, both
@@ -142,8 +167,8 @@ def edge(r, low, high):
 
 def damage_numbers(r, tables):
     """Changes a number, a line or a count."""
-    filled = [t for t in range(7) if tables[t]]
-    what = r.below(12)
+    filled = [t for t in range(len(NAMES)) if tables[t]]
+    what = r.below(14)
     if not filled:
         return
     if what <= 4:
@@ -154,13 +179,13 @@ def damage_numbers(r, tables):
             row[j] = edge(r, *RANGES[t][j])
         else:
             row[j] = r.pick([0, -1, 1, row[j] + 1, row[j] - 1, len(tables[2]) + 1, len(tables[1]) + 1, -2147483648, 2147483647])
-    elif what == 5 and tables[6]:
-        row = r.pick(tables[6])
+    elif what == 5 and tables[ORDERS]:
+        row = r.pick(tables[ORDERS])
         for j in (3, 6, 7, 8, 9, 1, 5):
             if r.chance(3):
-                row[j] = edge(r, *RANGES[6][j]) if r.chance(2) else 0
+                row[j] = edge(r, *RANGES[ORDERS][j]) if r.chance(2) else 0
     elif what == 6:
-        t = r.among(1, 6)
+        t = r.among(1, len(NAMES) - 1)
         width = len(RANGES[t])
         while len(tables[t]) <= LIMITS[t][1]:
             tables[t].append(list(r.pick(tables[t])) if tables[t] else [0] * width)
@@ -177,6 +202,11 @@ def damage_numbers(r, tables):
     elif what == 11 and tables[5]:
         row = r.pick(tables[5])
         row[1], row[2] = r.pick([(2147483647, 2147483647), (row[1] + 1, row[2]), (row[1], row[2] + 1), (row[1] + row[2] + 1, 0)])
+    elif what == 12 and tables[7]:
+        row = r.pick(tables[7])
+        row[4], row[5] = r.pick([(row[5], row[5]), (row[5], row[4]), (row[5] - 1, row[5]), (0, 0), (1000000, 1000000)])
+    elif what == 13 and tables[7]:
+        tables[7].insert(r.below(len(tables[7]) + 1), [r.pick(tables[7])[0], *coordinates(r), 0, 1])
 
 
 def damage_text(r, text):

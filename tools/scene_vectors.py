@@ -15,7 +15,7 @@ import sys
 import scene_cases
 from scene_cases import LIMITS, NAMES, RANGES
 
-HEAD, CLOCKS, TRACKS, SENDS, ROUTES, SOUNDS, ORDERS = range(7)
+HEAD, CLOCKS, TRACKS, SENDS, ROUTES, SOUNDS, LISTENER, PLACINGS, ORDERS = range(len(NAMES))
 
 
 def base():
@@ -26,6 +26,8 @@ def base():
         [[0], [-3000]],
         [[1, 1, 0], [2, 2, -100]],
         [[0, 0, 4, 0], [2, 1, 2, 1]],
+        [[1000, -2000, 3000]],
+        [[2, 0, 0, 3000, 1000, 4000], [1, -500, 250, 125, 0, 1]],
         [
             [0, 0, 0, -6000, 0, 0, 0, 100, 0, 0],
             [1, 1, 2, 0, 1, 3, 500, 20, 1, 2],
@@ -99,7 +101,7 @@ def spelling():
     lines = text.split(b"\n")
     bad = [
         ("an empty line after the last table", text + b"\n"),
-        ("an eighth table", text + b"\nvolume\n"),
+        ("a tenth table", text + b"\nvolume\n"),
         ("a line of spaces", text.replace(b"\n\nunit", b"\n \nunit")),
         ("two empty lines between tables", text.replace(b"\n\nunit", b"\n\n\nunit")),
         ("no empty line between tables", text.replace(b"\n\nunit", b"\nunit")),
@@ -133,7 +135,13 @@ def spelling():
         ("a number of 400 digits", text.replace(b"8192", b"1" * 400)),
         ("a names line twice", text.replace(NAMES[1], NAMES[1] + b"\n" + NAMES[1])),
         ("two tables exchanged", text.replace(NAMES[2] + b"\n0 0\n1 -6000\n0 100", b"*").replace(NAMES[3] + b"\n0\n-3000", NAMES[2] + b"\n0 0\n1 -6000\n0 100").replace(b"*", NAMES[3] + b"\n0\n-3000")),
-        ("the last table missing", text[: text.index(b"\n" + NAMES[6])]),
+        ("the last table missing", text[: text.index(b"\n" + NAMES[ORDERS])]),
+        ("the listener's table missing", text.replace(NAMES[LISTENER] + b"\n1000 -2000 3000\n\n", b"")),
+        ("the placings' table missing", b"\n\n".join(part for part in text.split(b"\n\n") if not part.startswith(NAMES[PLACINGS]))),
+        ("neither the listener's table nor the placings'", b"\n\n".join(part for part in text.split(b"\n\n") if not part.startswith((NAMES[LISTENER], NAMES[PLACINGS])))),
+        ("the placings before the listener", text.replace(NAMES[LISTENER] + b"\n1000 -2000 3000\n\n", b"").replace(b"\n" + NAMES[ORDERS], b"\n" + NAMES[LISTENER] + b"\n1000 -2000 3000\n\n" + NAMES[ORDERS])),
+        ("a listener of four fields", text.replace(b"1000 -2000 3000\n", b"1000 -2000 3000 0\n")),
+        ("a placing of five fields", text.replace(b"2 0 0 3000 1000 4000\n", b"2 0 0 3000 1000\n")),
         ("no names line", b"\n".join(lines[1:])),
     ]
     for name, damaged in bad:
@@ -163,13 +171,18 @@ def full(t):
         tables[t] = [[1 + k // 8, 1 + k % 8, 0] for k in range(64)]
     elif t == SOUNDS:
         tables[t] = [[0, 0, 4, 0]] * 64
+    elif t == LISTENER:
+        tables[t] = [[0, 0, 0]]
+    elif t == PLACINGS:
+        tables[TRACKS] = [[0, 0]] * 32
+        tables[t] = [[1 + k, k, -k, 1000 * k, k, k + 1] for k in range(32)]
     elif t == ORDERS:
         tables[t] = [[0, 0, 0, 0, 0, 0, 0, 0, 0, 0]] * 128
     return tables
 
 
 def counts():
-    for t in range(1, 7):
+    for t in range(1, len(NAMES)):
         tables = full(t)
         add(f"table {t} full", 0, tables=tables)
         tables = full(t)
@@ -178,10 +191,10 @@ def counts():
     add("no head line", 3, tables=with_rows(HEAD, []), length=8)
     add("two head lines", 3, tables=with_rows(HEAD, base()[0] * 2))
     tables = base()
-    for t in range(1, 7):
+    for t in range(1, len(NAMES)):
         tables[t] = []
     add("every table empty", 0, tables=tables)
-    tables = [base()[0]] + [full(t)[t] for t in range(1, 7)]
+    tables = [base()[0]] + [full(t)[t] for t in range(1, len(NAMES))]
     add("every table full", 0, tables=tables)
     add("the largest scene", 0, tables=largest(4), visitor=SAMPLES, length=4194304)
 
@@ -196,13 +209,15 @@ def largest(frames):
         [[-96000]] * 8,
         [[10 + k // 8, 1 + k % 8, -96000] for k in range(64)],
         [[32, half, half, 1]] * 64,
+        [[-1000000] * 3],
+        [[1 + k, -1000000, -1000000, -1000000, 999999, 1000000] for k in range(32)],
         [[1023, 3, 64, -96000, 8, 3600000, 999, 3600000, 3, 8]] * 128,
     ]
 
 
 def ranges():
-    place = {HEAD: 0, CLOCKS: 0, TRACKS: 2, SENDS: 0, ROUTES: 0, SOUNDS: 0, ORDERS: 0}
-    for t in range(7):
+    place = {HEAD: 0, CLOCKS: 0, TRACKS: 2, SENDS: 0, ROUTES: 0, SOUNDS: 0, LISTENER: 0, PLACINGS: 0, ORDERS: 0}
+    for t in range(len(NAMES)):
         for j, limits in enumerate(RANGES[t]):
             if limits is None:
                 continue
@@ -217,6 +232,10 @@ def ranges():
                         order[0] = min(order[0], value - 1)
                 if t == CLOCKS and j == 1 and value == high:
                     tables[t][0][0] = 2
+                if t == PLACINGS and fine and j == 4:
+                    tables[t][0][4:] = [value, value + 1] if value == 0 else [value - 1, value]
+                if t == PLACINGS and fine and j == 5:
+                    tables[t][0][4:] = [0, max(value, 1)]
                 if t == ORDERS:
                     row = tables[t][0]
                     if j == 0 and fine:
@@ -239,7 +258,7 @@ def ranges():
 
 def orders():
     def order(name, expected, **fields):
-        names = NAMES[6].decode().split()
+        names = NAMES[ORDERS].decode().split()
         row = [0, 0, 0, 0, 0, 0, 0, 100, 0, 0]
         for key, value in fields.items():
             row[names.index(key)] = value
@@ -301,7 +320,7 @@ def changed_row(t, i, row):
 
 
 def references():
-    for t, i, j, last, zero in ((ROUTES, 0, 0, 3, False), (ROUTES, 0, 1, 2, False), (SOUNDS, 0, 0, 3, True)):
+    for t, i, j, last, zero in ((ROUTES, 0, 0, 3, False), (ROUTES, 0, 1, 2, False), (SOUNDS, 0, 0, 3, True), (PLACINGS, 0, 0, 3, False)):
         add(f"table {t}, field {j}: the last line", 0, tables=changed(t, i, j, last))
         add(f"table {t}, field {j}: past the last line", 5, tables=changed(t, i, j, last + 1))
         add(f"table {t}, field {j}: 0", 0 if zero else 5, tables=changed(t, i, j, 0))
@@ -326,6 +345,37 @@ def pairs():
     add("the same track, another send", 0, tables=with_rows(ROUTES, [[1, 1, 0], [1, 2, 0]]))
     add("the same send, another track", 0, tables=with_rows(ROUTES, [[1, 1, 0], [2, 1, 0]]))
     add("track and send exchanged", 0, tables=with_rows(ROUTES, [[1, 2, 0], [2, 1, 0]]))
+
+
+def distances():
+    for near, far, expected in (
+        (0, 0, 4),
+        (0, 1, 0),
+        (1, 0, 4),
+        (1, 1, 4),
+        (999, 1000, 0),
+        (1000, 1000, 4),
+        (1001, 1000, 4),
+        (999999, 1000000, 0),
+        (1000000, 1000000, 4),
+        (1000000, 999999, 4),
+        (1000000, 0, 4),
+        (0, 1000000, 0),
+    ):
+        add(f"from {near} to {far}", expected, tables=changed_row(PLACINGS, 1, [1, 0, 0, 0, near, far]))
+    add("from 1000000 to 1000001", 4, tables=changed_row(PLACINGS, 1, [1, 0, 0, 0, 1000000, 1000001]))
+    add("from -1 to 0", 4, tables=changed_row(PLACINGS, 1, [1, 0, 0, 0, -1, 0]))
+
+
+def placed():
+    pose = [0, 0, 0, 0, 1]
+    add("no listener", 0, tables=with_rows(LISTENER, []))
+    add("two listeners", 3, tables=with_rows(LISTENER, [[0, 0, 0]] * 2))
+    add("a listener and no placing", 0, tables=with_rows(PLACINGS, []))
+    add("all tracks placed, the last first", 0, tables=with_rows(PLACINGS, [[k, *pose] for k in (3, 2, 1)]))
+    add("a track placed twice", 7, tables=with_rows(PLACINGS, [[1, *pose], [1, *pose]]))
+    add("a track placed twice, with lines between", 7, tables=with_rows(PLACINGS, [[3, *pose], [1, *pose], [2, *pose], [3, 5, 0, 0, 0, 2]]))
+    add("the first track placed twice, with no listener", 7, tables=[*base()[:LISTENER], [], [[1, *pose], [2, *pose], [1, *pose]], base()[ORDERS]])
 
 
 def samples():
@@ -398,6 +448,18 @@ def precedence():
     tables[ROUTES] = [[1, 1, 0], [1, 1, 0]]
     add("6 before 7", 6, tables=tables)
     add("7 before 8", 7, tables=with_rows(ROUTES, [[1, 1, 0], [1, 1, 0]]), samples=SAMPLES[:7])
+    twice = [[1, 0, 0, 0, 0, 1], [1, 0, 0, 0, 0, 1]]
+    add("7 of the placings before 8", 7, tables=with_rows(PLACINGS, twice), samples=SAMPLES[:7])
+    tables = with_rows(TRACKS, [[k, 0] for k in range(5)])
+    tables[PLACINGS] = twice
+    add("6 before 7 of the placings", 6, tables=tables)
+    tables = with_rows(PLACINGS, twice)
+    tables[SOUNDS][0][0] = 9
+    add("5 before 7 of the placings", 5, tables=tables)
+    add("4 of a distance before 5 of its track", 4, tables=changed_row(PLACINGS, 0, [9, 0, 0, 0, 1, 1]))
+    tables = with_rows(LISTENER, [[0, 0, 0]] * 2)
+    tables[PLACINGS][0][4:] = [1, 1]
+    add("3 of the listener before 4 of a distance", 3, tables=tables)
     add("8 before 9", 8, tables=with_rows(SOUNDS, [[0, 0, 5, 0]]), samples=[2.0] + SAMPLES[1:])
     add("8 of the visitor's before 9 of the house's", 8, tables=with_rows(SOUNDS, [[0, 0, 4, 1]]), samples=[2.0] + SAMPLES[1:])
     add("8 of the visitor's, an odd count, before 9 of the house's", 8, samples=[2.0] + SAMPLES[1:], visitor=VISITOR[:5])
@@ -409,7 +471,7 @@ def precedence():
     add("4 before 10", 4, tables=changed(HEAD, 0, 1, 9), length=5)
 
 
-for part in (sizes, spelling, counts, ranges, orders, speeds, references, depths, pairs, samples, lengths, precedence):
+for part in (sizes, spelling, counts, ranges, orders, speeds, references, depths, pairs, distances, placed, samples, lengths, precedence):
     part()
 
 

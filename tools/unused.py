@@ -14,6 +14,7 @@ TESTS = [
     ("rounding", "narrowings"),
     ("rounding", "nanos"),
     ("rounding", "seconds"),
+    ("root", "roots"),
     ("pcm", "minus-zero-lost"),
     ("pcm", "one-lost"),
     ("order_lines", "cases"),

@@ -1,16 +1,16 @@
 #!/usr/bin/env python3
-"""Makes the lists of vectors that the programs test_rounding and test_decibels run.
+"""Makes the lists of vectors that the programs test_rounding, test_decibels, test_root and test_spatial run.
 
-    tools/vectors.py [--testfp FILE] [--glibc FOLDER]     writes the four lists; needs rustc
+    tools/vectors.py [--testfp FILE] [--glibc FOLDER]     writes the six lists; needs rustc
     tools/vectors.py --check [..]                         writes nothing, and says whether the lists are as it would write them
 
 FILE is strconv/testdata/testfp.txt of Debian's golang-1.19-src, which holds the stress inputs of Vern Paxson, "A
 Program for Testing IEEE Decimal-Binary Conversion". FOLDER is the source of the GNU C Library 2.36, of Debian's
-glibc-source; the results of its tests of `strtod` and of narrowing operations are read. What is not given is fetched by `apt-get download` and unpacked into a
+glibc-source; the results of its tests of `strtod`, of narrowing operations and of `sqrt` are read. What is not given is fetched by `apt-get download` and unpacked into a
 temporary folder. The lists are kept in the repository, so that its tests need neither.
 
-What is expected is never worked out by the code under test. Rounding, nanoseconds and seconds come from Rust's own
-casts and `Duration` (tools/vectors.rs); where a published set says the f32 of an f64, it must be Rust's, or the script
+What is expected is never worked out by the code under test. Rounding, nanoseconds, seconds and roots come from Rust's own
+casts, `Duration` and `sqrt` (tools/vectors.rs), levels at a distance from kira's steps in Rust's own f32 (there too); where a published set says the f32, it must be Rust's, or the script
 fails. Amplitudes are worked out here from the gain table's rule, with whole numbers alone.
 """
 import argparse
@@ -155,6 +155,7 @@ def fetch_testfp():
 # the binary32 next to the result.
 DECIMALS = "stdlib/tst-strtod-round-data.h"
 NARROW = "math/auto-libm-test-out-narrow-"
+ROOTS = "math/auto-libm-test-out-sqrt"
 OPERATIONS = {
     "add": lambda a, b: a + b,
     "sub": lambda a, b: a - b,
@@ -166,13 +167,13 @@ OPERATIONS = {
 
 
 def glibc_files(folder):
-    return {name: text_of(folder, name) for name in [DECIMALS] + [NARROW + op for op in OPERATIONS]}
+    return {name: text_of(folder, name) for name in [DECIMALS, ROOTS] + [NARROW + op for op in OPERATIONS]}
 
 
 def fetch_glibc():
     with tempfile.TemporaryDirectory() as folder:
         archive, = glob.glob(os.path.join(unpacked("glibc-source", folder), "usr/src/glibc/glibc-*.tar.xz"))
-        subprocess.run(["tar", "xf", archive, "-C", folder, "--wildcards", "*/" + DECIMALS, "*/" + NARROW + "*"], check=True)
+        subprocess.run(["tar", "xf", archive, "-C", folder, "--wildcards", "*/" + DECIMALS, "*/" + ROOTS, "*/" + NARROW + "*"], check=True)
         source, = glob.glob(os.path.join(folder, "glibc-*/"))
         return glibc_files(source)
 
@@ -250,6 +251,12 @@ def glibc_narrow(glibc):
             if x is not None and f64_value(x) is not None:
                 found[f64_value(x)] = f32_result(result, x < 0)
     return found
+
+
+def glibc_roots(glibc):
+    """Each binary32 from 0 up of glibc's test of `sqrt`, with the root to nearest."""
+    rows = re.findall(r"^= sqrt tonearest binary32 (0x\S+) : (0x\S+) :", glibc[ROOTS], re.M)
+    return {F32.bits(hexadecimal(x)): F32.bits(hexadecimal(r)) for x, r in rows}
 
 
 def both_signs(patterns, sign=F64.sign):
@@ -343,11 +350,73 @@ def second_inputs():
     yield "ours: past an hour", [3600001, 2 ** 31 - 1, 2 ** 31, 2 ** 32 - 1000, 2 ** 32 - 1]
 
 
+def root_inputs(roots):
+    most = F32.bits(Fraction(12000000))  # the largest sum of squares of a scene, 3 * 2000^2
+    kept = lambda patterns: [p for p in patterns if 0 <= p <= 0x7F7FFFFF]
+    of = lambda x: F32.bits(F32.round(x))
+    yield "published: every binary32 from 0 up in glibc 2.36's math/auto-libm-test-out-sqrt, in its order", list(roots)
+    yield "ours: the first patterns, and those around the largest sum of a scene and the largest f32", list(range(17)) + list(range(most - 8, most + 9)) + list(range(0x7F7FFFF0, 0x7F800000))
+    yield "ours: both ends of every exponent, with the next ones", kept([(field << 23) + d for field in range(255) for d in (0, 1, 2, 0x7FFFFD, 0x7FFFFE, 0x7FFFFF)])
+    choose = random.Random(4)
+    whole = list(range(1, 200)) + [choose.randrange(200, 3465) for _ in range(150)]
+    yield "ours: squares of whole numbers up to 3,464, with the f32 on either side", [p for n in whole for p in around(of(Fraction(n * n)))]
+    bits = [choose.randrange(0x1A000000, 0x5F7FFFFF) for _ in range(300)] + [choose.randrange(0x20000000, 0x45588000) for _ in range(700)]
+    middles = [(F32.value(b) + F32.value(b + 1)) / 2 for b in bits]
+    yield "ours: next to the square of the middle of two f32, where the root is next to a tie", kept([p for m in middles for p in around(of(m * m))])
+    steps = lambda: Fraction(choose.randrange(-2000000, 2000001), 1000)
+    yield "ours: sums of three squares of thousandths", [of(steps() ** 2 + steps() ** 2 + steps() ** 2) for _ in range(1500)]
+    yield "ours: chosen at random up to the largest sum, and up to the largest f32", [choose.randrange(most + 1) for _ in range(1500)] + [choose.randrange(0x7F800000) for _ in range(500)]
+
+
+def level(row, from_left=True):
+    """The level of a row of thousandths, as floats: where the order of the sum is to matter, a row is chosen by it."""
+    f = lambda x: struct.unpack("<f", struct.pack("<f", x))[0]
+    n = [f(t / 1000) for t in row]
+    x, y, z = (f(d * d) for d in (f(n[i] - n[i + 3]) for i in range(3)))
+    squares = f(f(x + y) + z) if from_left else f(x + f(y + z))
+    low, high = n[6], n[7]
+    part = f(f(min(max(f(math.sqrt(squares)), low), high) - low) / f(high - low))
+    return f(-60.0 + f(60.0 * f(1.0 - part)))
+
+
+def attenuation_inputs():
+    bits = lambda t: F32.bits(F32.round(Fraction(abs(t), 1000))) + (F32.sign if t < 0 else 0)
+    patterns = lambda rows: [tuple(map(bits, row)) for row in rows]
+    ends = [(1000, 100000), (0, 1), (0, 1000000), (999999, 1000000), (500, 501), (3000, 5000), (1, 700)]
+
+    def marks(near, far):
+        middle = (near + far) // 2
+        return sorted({d for m in (0, near, middle, far, 1000000) for d in (m - 1, m, m + 1) if 0 <= d <= 1000000})
+
+    axes = [(1, 0, 0), (0, -1, 0), (0, 0, 1)]
+    along = [(0, 0, 0) + tuple(d * s for s in axis) + pair for pair in ends for d in marks(*pair) for axis in axes]
+    yield "ours: along each axis, at near, at far, halfway and 0, with a thousandth on either side", patterns(along)
+    corner = lambda k: tuple(1000000 if k >> i & 1 else -1000000 for i in range(3))
+    yield "ours: from corner to corner of the room", patterns([corner(a) + corner(b) + pair for a in range(8) for b in range(8) for pair in ends[:3]])
+    choose = random.Random(5)
+
+    def row(most, near, far):
+        low = choose.randrange(near)
+        return tuple(choose.randrange(-most, most + 1) for _ in range(6)) + (low, choose.randrange(low + 1, far + 1))
+
+    heard = lambda r: -60.0 < level(r) < 0.0
+    some = lambda n, test, *ranges: [r for r in (row(*ranges) for _ in range(60 * n)) if test(r)][:n]
+    yield "ours: chosen at random between near and far, in the whole room and in a small one", patterns(some(600, heard, 1000000, 1000000, 1000000) + some(600, heard, 20000, 5000, 60000))
+    yield "ours: chosen at random, where a sum from the right gives another level", patterns(some(300, lambda r: level(r) != level(r, False), 20000, 2000, 60000))
+    yield "ours: chosen at random", patterns([row(1000000, 1000000, 1000000) for _ in range(500)])
+    zero = F32.sign
+    yield "ours: zeros of either sign", [(a, b, 0, c, 0, d, e, bits(far)) for a in (0, zero) for b in (0, zero) for c in (0, zero) for d in (0, zero) for e in (0, zero) for far in (1, 1000)]
+
+
 # ---- lists
 
 
+def numbers(row):
+    return row if isinstance(row, tuple) else (row,)
+
+
 def by_rust(program, name, inputs):
-    text = "".join(f"{i:x}\n" for i in inputs)
+    text = "".join(" ".join(f"{n:x}" for n in numbers(i)) + "\n" for i in inputs)
     return subprocess.run([program, name], input=text, capture_output=True, text=True, check=True).stdout.split()
 
 
@@ -363,7 +432,7 @@ def listed(title, columns, source, sections, width, expected):
     at = 0
     for name, inputs in sections:
         lines.append(f"# {name}")
-        lines += [f"{i:0{width}x} {r}" for i, r in zip(inputs, rows[at:])]
+        lines += [" ".join([f"{n:0{width}x}" for n in numbers(i)] + [r]) for i, r in zip(inputs, rows[at:])]
         at += len(inputs)
     return "\n".join(lines) + "\n"
 
@@ -379,7 +448,7 @@ def as_published(inputs, results, *sets):
 
 def all_lists(testfp, glibc, program):
     rust = lambda name: lambda inputs: by_rust(program, name, inputs)
-    decimals, narrow = glibc_decimals(glibc), glibc_narrow(glibc)
+    decimals, narrow, roots = glibc_decimals(glibc), glibc_narrow(glibc), glibc_roots(glibc)
     version = subprocess.run(["rustc", "--version"], capture_output=True, text=True, check=True).stdout.split()[1]
     by = f"Expected: rustc {version}, "
     yield "test_rounding/data/rounding.txt", listed(
@@ -392,6 +461,13 @@ def all_lists(testfp, glibc, program):
     yield "test_rounding/data/seconds.txt", listed(
         "Milliseconds to seconds.", "milliseconds, the bits of the f64", by + "`Duration::from_millis(n).as_secs_f64()`.",
         second_inputs(), 8, rust("seconds"))
+    yield "test_root/data/root.txt", listed(
+        "Square roots.", "the bits of an f32 from 0 up, the bits of its root", by + "`f32::sqrt`; glibc's results are the same.",
+        root_inputs(roots), 8, lambda inputs: as_published(inputs, rust("root")(inputs), roots))
+    yield "test_spatial/data/attenuation.txt", listed(
+        "Levels at a distance.", "the bits of the listener's x, y and z, of the track's, of the nearest and the farthest distance, and of the level in decibels",
+        by + "kira's steps with `f32::sqrt` and `f32::clamp`.",
+        attenuation_inputs(), 8, rust("attenuation"))
     yield "test_decibels/data/amplitude.txt", listed(
         "Decibels to amplitude.", "the f32's bits, the number answered (0, or 11), the bits of the amplitude (0 where it is refused)",
         "Expected: the gain table's rule, worked out with whole numbers in tools/vectors.py.",

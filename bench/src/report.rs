@@ -82,10 +82,13 @@ pub fn summary(all: &[Measured]) {
 		let name = format!("{}: kira powf/room_desk", measured.name);
 		ratios(&name, &times[POWF], &times[OURS]);
 	}
-	if let (Some(paused), Some(steady)) = (find("paused"), find("steady")) {
+	for scene in ["paused", "placed"] {
+		let (Some(measured), Some(steady)) = (find(scene), find("steady")) else {
+			continue;
+		};
 		for (side, name) in [(OURS, "room_desk"), (POWF, "kira powf")] {
-			let name = format!("paused/steady: {name}");
-			ratios(&name, &paused.times[side], &steady.times[side]);
+			let name = format!("{scene}/steady: {name}");
+			ratios(&name, &measured.times[side], &steady.times[side]);
 		}
 	}
 	let growth = GROWTH.map(|tracks| (tracks, find(&growth_name(tracks))));

@@ -35,6 +35,10 @@ pub fn scene(name: &str, blocks: usize) -> Option<Scene> {
 			orders: pauses(),
 			..steady(32)
 		},
+		"placed" => Tables {
+			placings: placings(32),
+			..steady(32)
+		},
 		_ => steady(growth_tracks(name)?),
 	};
 	Some(Scene {
@@ -70,6 +74,8 @@ struct Tables {
 	routes: Vec<[usize; 2]>,
 	/// The track of each.
 	sounds: Vec<usize>,
+	/// With one, there is a listener too.
+	placings: Vec<String>,
 	orders: Vec<String>,
 }
 
@@ -96,6 +102,13 @@ impl Tables {
 		table(&mut text, "volume", sends);
 		table(&mut text, "track send volume", routes);
 		table(&mut text, "track first count from", sounds);
+		let listener = self.placings.first().map(|_| "1500 -250 125".into());
+		table(&mut text, "x y z", listener);
+		table(
+			&mut text,
+			"track x y z near far",
+			self.placings.iter().cloned(),
+		);
 		let orders = "block kind index volume clock when part millis easing power";
 		table(&mut text, orders, self.orders.iter().cloned());
 		text
@@ -127,8 +140,16 @@ fn steady(tracks: usize) -> Tables {
 			.flat_map(|track| [[track, send(track, 0)], [track, send(track, 3)]])
 			.collect(),
 		sounds: (1..=tracks).flat_map(|track| [track, track]).collect(),
+		placings: vec![],
 		orders: vec![],
 	}
+}
+
+/// Every track between near and far, each at another distance.
+fn placings(tracks: i32) -> Vec<String> {
+	(1..=tracks)
+		.map(|track| format!("{track} {} {} 0 500 100000", 200 * track, 2000 - 90 * track))
+		.collect()
 }
 
 /// One track at 0 dB with one sound; the main track at 0 dB too.
@@ -139,6 +160,7 @@ fn single() -> Tables {
 		sends: 0,
 		routes: vec![],
 		sounds: vec![1],
+		placings: vec![],
 		orders: vec![],
 	}
 }

@@ -8,7 +8,8 @@ use std::{
 	time::Duration,
 };
 
-use scene::{Order, Recordings, Scene, Sound as SoundLine, Start, Volume};
+use glam::{Quat, Vec3};
+use scene::{Order, Placing, Position, Recordings, Scene, Sound as SoundLine, Start, Volume};
 
 use crate::{
 	Capacities, Decibels, Easing, Frame, StartTime, Tween, Value,
@@ -18,9 +19,11 @@ use crate::{
 	},
 	clock::{Clock, ClockHandle, ClockId, ClockSpeed, ClockTime},
 	info::Info,
+	listener::{Listener, ListenerHandle, ListenerId},
 	sound::{Sound, SoundData},
 	track::{
-		MainTrackBuilder, SendTrackBuilder, SendTrackHandle, SendTrackId, TrackBuilder, TrackHandle,
+		MainTrackBuilder, SendTrackBuilder, SendTrackHandle, SendTrackId, SpatialTrackBuilder,
+		TrackBuilder, TrackHandle,
 	},
 };
 
@@ -34,6 +37,7 @@ pub struct Show {
 	renderer: Renderer,
 	controllers: ResourceControllers,
 	clocks: Vec<ClockHandle>,
+	listener: Option<ListenerHandle>,
 	sends: Vec<SendTrackHandle>,
 	tracks: Vec<TrackHandle>,
 	scene: Scene,
@@ -53,13 +57,15 @@ impl Show {
 			renderer: Renderer::new(shared.clone(), buffer, resources),
 			controllers,
 			clocks: vec![],
+			listener: None,
 			sends: vec![],
 			tracks: vec![],
 			scene: scene.clone(),
 		};
 		show.add_clocks();
 		show.add_sends();
-		show.add_tracks(&shared);
+		let listener = show.add_listener();
+		show.add_tracks(&shared, listener);
 		show.add_sounds(recordings);
 		show
 	}
@@ -115,32 +121,91 @@ impl Show {
 		}
 	}
 
-	fn add_tracks(&mut self, shared: &Arc<RendererShared>) {
+	/// The id that spatial tracks name. Without a line it finds nothing, as that
+	/// of a listener that was removed.
+	fn add_listener(&mut self) -> ListenerId {
+		let controller = &mut self.controllers.listener_controller;
+		let key = controller.try_reserve().expect("a place for a listener");
+		if let Some(line) = self.scene.listener {
+			let place = Value::Fixed(position(line));
+			let (listener, handle) =
+				Listener::new(ListenerId(key), place, Value::Fixed(Quat::IDENTITY));
+			controller.insert_with_key(key, listener);
+			self.listener = Some(handle);
+		}
+		ListenerId(key)
+	}
+
+	fn add_tracks(&mut self, shared: &Arc<RendererShared>, listener: ListenerId) {
 		for number in 1..=self.scene.tracks.len() {
 			let builder = self.track_builder(number);
-			let handle = match self.scene.tracks[number - 1].parent {
-				0 => {
-					let (track, handle) = builder.build(shared.clone(), self.scene.head.buffer);
-					let controller = &mut self.controllers.sub_track_controller;
-					controller.insert(track).expect("a place for a track");
-					handle
+			let mut placings = self.scene.placings.iter();
+			let handle = match placings.find(|line| line.track == number).copied() {
+				Some(line) => {
+					let builder = spatial(builder, &line);
+					self.add_spatial_track(
+						number,
+						shared,
+						builder,
+						listener,
+						position(line.position),
+					)
 				}
-				parent => {
-					(self.tracks[parent - 1].add_sub_track(builder)).expect("a place for a track")
-				}
+				None => self.add_track(number, shared, TrackBuilder(builder)),
 			};
 			self.tracks.push(handle);
 		}
 	}
 
-	fn track_builder(&self, number: usize) -> TrackBuilder {
+	fn add_track(
+		&mut self,
+		number: usize,
+		shared: &Arc<RendererShared>,
+		builder: TrackBuilder,
+	) -> TrackHandle {
+		match self.scene.tracks[number - 1].parent {
+			0 => {
+				let (track, handle) = builder.build(shared.clone(), self.scene.head.buffer);
+				let controller = &mut self.controllers.sub_track_controller;
+				controller.insert(track).expect("a place for a track");
+				handle
+			}
+			parent => {
+				(self.tracks[parent - 1].add_sub_track(builder)).expect("a place for a track")
+			}
+		}
+	}
+
+	fn add_spatial_track(
+		&mut self,
+		number: usize,
+		shared: &Arc<RendererShared>,
+		builder: SpatialTrackBuilder,
+		listener: ListenerId,
+		place: Vec3,
+	) -> TrackHandle {
+		TrackHandle(match self.scene.tracks[number - 1].parent {
+			0 => {
+				let buffer = self.scene.head.buffer;
+				let (track, handle) =
+					builder.build(shared.clone(), buffer, listener, Value::Fixed(place));
+				let controller = &mut self.controllers.sub_track_controller;
+				controller.insert(track).expect("a place for a track");
+				handle
+			}
+			parent => (self.tracks[parent - 1].add_spatial_sub_track(listener, place, builder))
+				.expect("a place for a track"),
+		})
+	}
+
+	/// With the track's volume and routes; `TrackBuilder` makes a plain track of it.
+	fn track_builder(&self, number: usize) -> SpatialTrackBuilder {
 		let volume = decibels(self.scene.tracks[number - 1].volume);
 		let routes = self.scene.routes.iter();
-		routes
-			.filter(|route| route.track == number)
-			.fold(TrackBuilder::new().volume(volume), |builder, route| {
-				builder.with_send(&self.sends[route.send - 1], decibels(route.volume))
-			})
+		routes.filter(|route| route.track == number).fold(
+			SpatialTrackBuilder::new().volume(volume),
+			|builder, route| builder.with_send(&self.sends[route.send - 1], decibels(route.volume)),
+		)
 	}
 
 	fn add_sounds(&mut self, recordings: &Recordings) {
@@ -213,7 +278,27 @@ impl Show {
 }
 
 pub(crate) fn decibels(volume: Volume) -> Decibels {
-	Decibels(volume as f32 / 1000.0)
+	Decibels(thousandths(volume))
+}
+
+fn thousandths(number: i32) -> f32 {
+	number as f32 / 1000.0
+}
+
+pub(crate) fn position(line: Position) -> Vec3 {
+	Vec3::new(
+		thousandths(line.x),
+		thousandths(line.y),
+		thousandths(line.z),
+	)
+}
+
+/// Loudness by distance alone: linear attenuation, and nothing panned.
+pub(crate) fn spatial(builder: SpatialTrackBuilder, line: &Placing) -> SpatialTrackBuilder {
+	builder
+		.distances((thousandths(line.near), thousandths(line.far)))
+		.attenuation_function(Easing::Linear)
+		.spatialization_strength(0.0)
 }
 
 pub(crate) fn clock_speed(unit: i32, speed: i32) -> ClockSpeed {

@@ -2,14 +2,15 @@
 
 use std::time::Duration;
 
-use scene::{Order, Volume};
+use scene::{Order, Placing, Position, Volume};
 
 use crate::{
-	Decibels, Parameter, StartTime, Tweenable, Value,
+	Decibels, Frame, Parameter, StartTime, Tweenable, Value,
 	clock::{Clock, ClockId, State},
-	harness::{at_once, clock_speed, decibels, easing, start_time, tween},
+	harness::{at_once, clock_speed, decibels, easing, position, spatial, start_time, tween},
 	info::{Info, MockInfoBuilder},
 	playback_state_manager::PlaybackStateManager,
+	track::{SpatialTrackBuilder, spatialized},
 };
 
 /// The amplitude, where the amplitude routine accepts the number.
@@ -23,6 +24,13 @@ pub fn eased(kind: i32, power: i32, x: f64) -> f64 {
 
 pub fn interpolated(a: f32, b: f32, amount: f64) -> f32 {
 	Decibels::interpolate(Decibels(a), Decibels(b), amount).0
+}
+
+/// What a placed track's frames are multiplied by.
+pub fn attenuation(listener: Position, placing: &Placing) -> f32 {
+	let builder = spatial(SpatialTrackBuilder::new(), placing);
+	let place = position(placing.position);
+	spatialized(builder, position(listener), place, Frame::from_mono(1.0)).left
 }
 
 /// A clock's ticks and fraction after each step.

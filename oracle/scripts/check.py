@@ -19,7 +19,7 @@ import named
 import pairs
 import scenes
 import vectors
-from tables import bits, double_bits
+from tables import Random, bits, double_bits
 
 ORACLE = named.FOLDER.parent / "target" / "release" / "oracle"
 SEED = 20260101
@@ -173,6 +173,27 @@ def check_scenes(count):
     report("generated scenes", numbers == {0: count}, text)
 
 
+def check_spatial(count):
+    """One track with a steady sound: each frame is the sample times the model's
+    amplitude, and the listener stays where it is from chunk to chunk."""
+    made, wrong = [], []
+    for n in range(count):
+        rng = Random(SEED, n)
+        listener = [scenes.listener(rng)] if rng.chance(7, 8) else []
+        pose = scenes.pose(rng, listener[0] if listener else None)
+        sample = rng.pick([1.0, -1.0, 0.5])
+        made.append((listener, pose, sample, named.show(3, named.steady(24, sample), listener=listener, placings=[[1, *pose]])))
+    both = [cases.of_scene(scene, True) for *_, scene in made]
+    heard = 0
+    for (listener, pose, sample, _), (_, number, output) in zip(made, answers(both)):
+        amplitude = int(models.attenuation(*listener[0], *pose)) if listener else 0
+        expected = bits(0.0 + named.number(amplitude) * sample)
+        heard += expected != 0
+        if (number, {*struct.unpack("<24I", output)}) != (0, {expected}):
+            wrong.append((listener, pose, sample))
+    report("spatial tracks by the model", not wrong, f"{count}, {heard} heard {wrong[:1] or ''}")
+
+
 def check_damaged(count):
     numbers, foretold, wrong = Counter(), 0, []
     for case, number, _ in answers(cases.of_damaged(SEED, count)):
@@ -212,6 +233,7 @@ def main():
     check_missing_files(ORACLE.parent / "missing-files")
     check_features(5000 // share)
     check_scenes(5000 // share)
+    check_spatial(2000 // share)
     check_damaged(5000 // share)
     check_pairs(2000 // share)
     for kind in pairs.CONTROLS:

@@ -13,7 +13,8 @@ RANGES = {
     "blocks": (1, 1024), "volume": (-96000, 18000), "unit": (0, 2), "speed": (1, 60_000_000),
     "ticking": (0, 1), "first": (0, None), "count": (0, None), "kind": (0, 5),
     "when": (0, 3_600_000), "part": (0, 999), "millis": (0, 3_600_000), "easing": (0, 3),
-    "power": (0, 8), "from": (0, 1),
+    "power": (0, 8), "from": (0, 1), "x": (-1_000_000, 1_000_000), "y": (-1_000_000, 1_000_000),
+    "z": (-1_000_000, 1_000_000), "near": (0, 1_000_000), "far": (0, 1_000_000),
 }  # fmt: skip
 DAMAGES = []
 
@@ -60,6 +61,9 @@ def base(rng):
     for origin, samples in enumerate(made.recordings()):
         samples += scenes.samples(rng, 4)
         made.sounds.append([len(made.tracks), 0, len(samples) // 2, origin])
+    if not made.listener:
+        made.listener.append(scenes.listener(rng))
+    made.placings.append([len(made.tracks), *scenes.pose(rng, made.listener[0])])
     for kind, index in scenes.targets(made)[-6:] + [(0, 0)]:
         made.orders.append(scenes.order(rng, made, limits, 0, kind, index))
     return made
@@ -192,8 +196,15 @@ def names_lines_swapped(rng, lines):
 @text_damage
 def table_missing(rng, lines):
     starts = names_lines(lines)
-    i = rng.below(6)
+    i = rng.below(len(starts) - 1)
     return lines[: starts[i]] + lines[starts[i + 1] :]
+
+
+@text_damage
+def tables_of_the_room_missing(rng, lines):
+    """As files were before there were spatial tracks."""
+    starts = [lines.index(NAMES[name].encode()) for name in ("listener", "orders")]
+    return lines[: starts[0]] + lines[starts[1] :]
 
 
 @text_damage
@@ -299,6 +310,15 @@ def too_fast(rng, damaged):
 
 
 @damage(4)
+def distances(rng, damaged):
+    """Near and far the same, or the wrong way round."""
+    line = some_line(rng, damaged.scene, "placings")
+    far = rng.pick([0, 1, 1000, 999_999])
+    damaged.scene.set("placings", line, "near", rng.pick([far, far + 1, 1_000_000]))
+    damaged.scene.set("placings", line, "far", far)
+
+
+@damage(4)
 def order_rule(rng, damaged):
     """A rule between two fields of an order."""
     broken = {
@@ -323,6 +343,7 @@ def reference(rng, damaged):
     table, name, target, zero = rng.pick([
         ("routes", "track", "tracks", False), ("routes", "send", "sends", False),
         ("sounds", "track", "tracks", True), ("orders", "clock", "clocks", True),
+        ("placings", "track", "tracks", False),
     ])  # fmt: skip
     outside = [-1, -(2**31), len(scene.tables[target]) + 1, 2**31 - 1] + ([] if zero else [0])
     line = some_line(rng, scene, table)
@@ -361,6 +382,13 @@ def too_deep(rng, damaged):
 def routed_twice(rng, damaged):
     track, send, _ = rng.pick(damaged.scene.routes)
     damaged.scene.routes.append([track, send, rng.pick(scenes.VOLUMES)])
+
+
+@damage(7)
+def placed_twice(rng, damaged):
+    track, *pose = rng.pick(damaged.scene.placings)
+    again = rng.pick([pose, scenes.pose(rng, None)])
+    damaged.scene.placings.insert(rng.below(len(damaged.scene.placings) + 1), [track, *again])
 
 
 # Questions 8 and 9, each of the house's samples and of the visitor's.

@@ -18,12 +18,15 @@ ALL = (
     + [f"dropped resume that {when} the pause" for when in ("starts with", "starts otherwise than")]
     + ["buffer does not divide block", "route", "clock that does not tick", "sound on the main track"]
     + ["sound without frames", "sound that ends inside a chunk", "32 tracks", "128 orders", "64 sounds"]
+    + ["spatial track", "spatial track without a listener", "listener without a spatial track", "32 placings"]
+    + [f"spatial track {where}" for where in ("at the listener", "inside near", "at near", "between", "at far", "beyond far")]
+    + ["spatial track below a spatial track", "spatial track with a route", "spatial track that an order names", "coordinate at an end"]
 )
 
 
 def of(scene):
     """Each feature once, so that a count of them is one of scenes."""
-    return {*of_head(scene), *of_tables(scene), *of_orders(scene)}
+    return {*of_head(scene), *of_tables(scene), *of_room(scene), *of_orders(scene)}
 
 
 def of_head(scene):
@@ -49,6 +52,34 @@ def of_tables(scene):
         "64 sounds": len(scene.sounds) == 64,
     }
     yield from (name for name, holds in found.items() if holds)
+
+
+def of_room(scene):
+    placed = {row[0] for row in scene.placings}
+    coordinates = [at for row in scene.listener + [row[1:4] for row in scene.placings] for at in row]
+    found = {
+        "spatial track": placed,
+        "spatial track without a listener": placed and not scene.listener,
+        "listener without a spatial track": scene.listener and not placed,
+        "32 placings": len(scene.placings) == 32,
+        "spatial track below a spatial track": any(scene.tracks[line - 1][0] in placed for line in placed),
+        "spatial track with a route": any(row[0] in placed for row in scene.routes),
+        "spatial track that an order names": any(row[1] in (1, 4, 5) and row[2] in placed for row in scene.orders),
+        "coordinate at an end": any(abs(at) == scenes.FARTHEST for at in coordinates),
+    }
+    yield from (name for name, holds in found.items() if holds)
+    for _, *place, near, far in scene.placings if scene.listener else []:
+        yield f"spatial track {where(scene.listener[0], place, near, far)}"
+
+
+def where(listener, place, near, far):
+    """Where a track stands, in whole numbers."""
+    square = sum((a - b) ** 2 for a, b in zip(listener, place))
+    if square == 0:
+        return "at the listener"
+    if square <= near**2:
+        return "at near" if square == near**2 else "inside near"
+    return "between" if square < far**2 else "at far" if square == far**2 else "beyond far"
 
 
 def of_orders(scene):

@@ -92,6 +92,33 @@ def interpolation(a, b, f64_bits):
     return bits(a + rounded(rounded(b - a) * amount))
 
 
+def root(x):
+    """The f32 nearest to the square root, by comparing squares: pattern k is at
+    least as near as the one below it where their midpoint's square is at most x."""
+    k = 0
+    for bit in reversed(range(31)):
+        following = k + 2**bit
+        if following < 0x7F800000 and (Fraction(number(following - 1)) + Fraction(number(following))) ** 2 <= 4 * Fraction(x):
+            k = following
+    return number(k)
+
+
+def level_at(listener, place, near, far):
+    """Decibels of a track at its place: each step rounded to f32."""
+    near, far = rounded(near / 1000), rounded(far / 1000)
+    squares = [rounded(side * side) for side in (rounded(rounded(a / 1000) - rounded(b / 1000)) for a, b in zip(listener, place))]
+    distance = root(rounded(rounded(squares[0] + squares[1]) + squares[2]))
+    held = near if distance < near else far if distance > far else distance
+    relative = rounded(rounded(held - near) / rounded(far - near))
+    return rounded(-60.0 + rounded(60.0 * rounded(1.0 - relative)))
+
+
+def attenuation(*fields):
+    """The amplitude that a spatial track's frames are multiplied by."""
+    level = level_at(fields[:3], fields[3:6], *fields[6:])
+    return amplitude(bits(level)).split()[1]
+
+
 def clock(unit, speed, ticking, *steps):
     speed = speed / 1000
     ticks_per_second = [1.0 / speed if unit == 0 else 0, speed, speed / 60.0][unit]
@@ -111,6 +138,6 @@ def answer(request):
     name, *words = request.split()
     models = dict(
         amplitude=amplitude, rounding=rounding, nanoseconds=nanoseconds, seconds=seconds,
-        easing=easing, interpolation=interpolation, clock=clock,
+        easing=easing, interpolation=interpolation, attenuation=attenuation, clock=clock,
     )  # fmt: skip
     return str(models[name](*map(int, words))) if name in models else None

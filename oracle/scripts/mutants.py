@@ -16,6 +16,8 @@ KIRA = "kira/crates/kira/src/"
 PARAMETER = KIRA + "parameter.rs"
 PLAYBACK = KIRA + "playback_state_manager.rs"
 TRACK = KIRA + "track/sub.rs"
+SPATIAL = KIRA + "track/sub/spatial_builder.rs"
+GLAM = "stand-ins/glam/src/lib.rs"
 RENDERER = KIRA + "backend/renderer.rs"
 HARNESS = "absent/harness.rs"
 NANOSECONDS = "Duration::from_secs_f64(dt)"
@@ -42,6 +44,17 @@ START_CHILD = "sub_track.on_start_processing();"
 LAST_LINES = "last_line(PAUSE) > last_line(RESUME)"
 NAMED = "(other.block, other.kind, other.index) == (order.block, kind, order.index)"
 STOOD_STILL = "self.playback_state_manager.playback_state() == crate::sound::PlaybackState::Paused"
+
+SCALED = "*frame *= volume * fade_volume;"
+VOLUME_LOOP = f"""		for (i, frame) in out.iter_mut().enumerate() {{
+			let time_in_chunk = (i + 1) as f64 / num_frames as f64;
+			let volume = self.volume.interpolated_value(time_in_chunk).as_amplitude();
+			let fade_volume = self.playback_state_manager.interpolated_fade_volume(time_in_chunk).as_amplitude();
+			{SCALED}
+		}}
+"""
+SPATIAL_STEP = "		// apply spatialization\n		if let"
+CUT = "let root = self.dot(self).sqrt(); if root as f64 * root as f64 > self.dot(self) as f64 { root.next_down() } else { root }"
 
 # The scene that must change, and edits: file, text, other text.
 MUTANTS = [
@@ -115,6 +128,17 @@ MUTANTS = [
       "let mut frame = self.temp_buffer[i]; if num_channels == 1 { frame = frame.as_mono(); }")),
     ("sums-start-at-zero",
      *((KIRA + file, ADD_SOUND, FIRST_TERM) for file in ("track/main.rs", "track/sub.rs", "backend/resources/mixer.rs"))),
+    ("spatial-track-inside-near", (SPATIAL, "distance.clamp(self.min_distance, self.max_distance)", "distance")),
+    ("spatial-track-between", (SPATIAL, "(distance - self.min_distance) /", "distance /")),
+    ("spatial-track-at-far", (TRACK, "(1.0 - relative_distance)", "relative_distance")),
+    ("spatial-track-without-a-listener", (TRACK, "*frame = Frame::ZERO;", "")),
+    ("spatial-track-with-a-route", (HARNESS, ".spatialization_strength(0.0)", "")),
+    ("distance-before-volume",
+     (TRACK, SCALED, "let _ = (frame, volume, fade_volume);"), (TRACK, SPATIAL_STEP, VOLUME_LOOP + SPATIAL_STEP)),
+    ("sum-of-squares-from-the-left",
+     (GLAM, "self.x * other.x + self.y * other.y + self.z * other.z", "self.x * other.x + (self.y * other.y + self.z * other.z)")),
+    ("root-is-the-nearest", (GLAM, "		self.dot(self).sqrt()", CUT)),
+    ("listener-stands-still", (GLAM, "self + (other - self) * amount", "self * (1.0 - amount) + other * amount")),
     ("row-send-below-silence",
      (TRACK, "		let num_frames = out.len();\n\n",
       "if self.volume.value().as_amplitude() == 0.0 { out.fill(Frame::ZERO); return; }\nlet num_frames = out.len();\n\n")),

@@ -670,6 +670,156 @@ def visitor_too_loud():
     return show(1, visitor=steady(1, 1.5)), 9
 
 
+# Spatial tracks. Track 1 is placed, and the listener at 0 0 0, where not said.
+
+HALFWAY = [3000, 4000, 0, 1000, 9000]  # 5 away: -30 dB
+BEYOND = [3000, 4000, 0, 1000, 4000]
+
+
+def spatial(*poses, listener=(0, 0, 0), **tables):
+    """The first tracks at these poses."""
+    tables.setdefault("samples", steady(16))
+    placings = [[line, *pose] for line, pose in enumerate(poses, 1)]
+    return show(2, listener=[list(listener)] if listener else [], placings=placings, **tables)
+
+
+def throughout(value):
+    return lambda c: c == [[value] * 8] * 2
+
+
+def about(low, high):
+    return lambda c: all(low < x < high and x == c[0][0] for part in c for x in part)
+
+
+@named
+def spatial_track_at_the_listener():
+    return spatial([1500, 0, -2000, 0, 1], listener=(1500, 0, -2000)), throughout(0.5)
+
+
+@named
+def spatial_track_inside_near():
+    return spatial([4900, 0, 0, 5000, 9000]), throughout(0.5)
+
+
+@named
+def spatial_track_at_near():
+    return spatial([3000, 4000, 0, 5000, 9000]), throughout(0.5)
+
+
+@named
+def spatial_track_between():
+    return spatial(HALFWAY), about(0.0158, 0.0159)
+
+
+@named
+def spatial_track_at_far():
+    return spatial([3000, 4000, 0, 4000, 5000]), throughout(0.0)
+
+
+@named
+def spatial_track_beyond_far():
+    return spatial(BEYOND), throughout(0.0)
+
+
+@named
+def spatial_track_without_a_listener():
+    """It is silent and advances: the send from below is heard."""
+    tables = dict(tracks=[[0, 0], [1, 0]], sounds=[[1, 0, 16], [2, 0, 16]], sends=[[0]], routes=[[2, 1, 0]])
+    return spatial([0, 0, 0, 0, 1], listener=None, samples=steady(16, 0.25), **tables), throughout(0.25)
+
+
+@named
+def listener_and_no_spatial_track():
+    return spatial(), throughout(0.5)
+
+
+@named
+def spatial_track_with_tracks_below():
+    """What is below is as far away as the track."""
+    return spatial(HALFWAY, tracks=[[0, 0], [1, 0]], sounds=[[2, 0, 16]]), about(0.0158, 0.0159)
+
+
+@named
+def spatial_track_below_a_spatial_track():
+    """-30 dB twice."""
+    return spatial(HALFWAY, HALFWAY, tracks=[[0, 0], [1, 0]], sounds=[[2, 0, 16]]), about(0.00049, 0.00051)
+
+
+@named
+def spatial_track_with_a_route():
+    """The copy is as far away."""
+    return spatial(HALFWAY, sends=[[0]], routes=[[1, 1, 0]]), about(0.0316, 0.0317)
+
+
+@named
+def send_below_a_track_beyond_far():
+    scene = spatial(BEYOND, tracks=[[0, 0], [1, 0]], sounds=[[2, 0, 16]], sends=[[0]], routes=[[2, 1, 0]])
+    return scene, throughout(0.5)
+
+
+@named
+def distance_before_volume():
+    """Uneven samples, whose products round."""
+    samples = [bits(((i * 7919) % 1000 - 500) / 1013) for i in range(32)]
+    return spatial(HALFWAY, samples=samples, tracks=[[0, -3300]]), lambda c: not silent(c[0])
+
+
+@named
+def sum_of_squares_from_the_left():
+    return spatial([-9927, -477, -6123, 59, 42692], listener=(13564, -19486, -12976)), about(0.003, 0.004)
+
+
+@named
+def root_is_the_nearest():
+    return spatial([-12398, 5998, 12730, 459, 56498], listener=(16140, -17302, 18757)), about(0.005, 0.006)
+
+
+@named
+def listener_stands_still():
+    """All frames of a chunk are alike, though kira goes from the listener's last place to this one."""
+    return spatial([662, 19190, 5165, 567, 38785], listener=(-16249, -688, 15053)), about(0.003, 0.004)
+
+
+@named
+def near_is_far():
+    return spatial([0, 0, 0, 5000, 5000]), 4
+
+
+@named
+def near_above_far():
+    return spatial([0, 0, 0, 5000, 4999]), 4
+
+
+@named
+def coordinate_1000001():
+    return spatial([0, 0, 1_000_001, 0, 1]), 4
+
+
+@named
+def placing_of_the_main_track():
+    return show(1, placings=[[0, *HALFWAY]]), 5
+
+
+@named
+def placing_of_a_track_that_is_not_there():
+    return spatial(HALFWAY, HALFWAY), 5
+
+
+@named
+def track_placed_twice():
+    return show(1, placings=[[1, *HALFWAY], [1, *BEYOND]]), 7
+
+
+@named
+def two_listeners():
+    return show(1, listener=[[0, 0, 0], [0, 0, 0]]), 3
+
+
+@named
+def placings_33():
+    return show(1, tracks=[[0, 0]] * 32, placings=[[1 + line % 32, *HALFWAY] for line in range(33)]), 3
+
+
 def write_all():
     for name, function in NAMED.items():
         scene, _ = function()

@@ -5,7 +5,7 @@ The words are those of docs/SILENCE.md: a chosen track is muted or held (paused
 at the start), and the lines inside it are what may differ.
 """
 import scenes
-from tables import MOST_LINES, PROGRAM_LIMIT, Random, Scene, bits, field
+from tables import MOST_LINES, NAMES, PROGRAM_LIMIT, Random, Scene, bits, field
 
 SILENCE = -60000
 MOST_FRAMES = PROGRAM_LIMIT // 2
@@ -53,10 +53,11 @@ def erased(scene, chosen):
     tracks = ranks(t for t in range(1, len(scene.tracks) + 1) if t not in inner)
     routes = ranks(r for r, row in enumerate(scene.routes, 1) if row[0] in tracks)
     return (
-        scene.head, scene.clocks, scene.sends,
+        scene.head, scene.clocks, scene.sends, scene.listener,
         [[tracks[parent], volume] for line, (parent, volume) in enumerate(scene.tracks, 1) if line in tracks],
         [[tracks[track], send, volume] for track, send, volume in scene.routes if track in tracks],
         [kept_sound(scene, row, tracks) for row in scene.sounds if row[0] in tracks and row[0] not in chosen],
+        [[tracks[track], *pose] for track, *pose in scene.placings if track in tracks and track not in chosen],
         [row for row in (kept_order(row, tracks, routes) for row in scene.orders) if row],
         [tracks[line] for line in chosen],
     )  # fmt: skip
@@ -92,9 +93,17 @@ def origins(scene):
     return [row[3] for row in scene.sounds]
 
 
+def poses(pair, n, chosen_too):
+    """The placings inside the chosen tracks of one side, the tracks' own or those below."""
+    scene, chosen = pair.scenes[n], pair.chosen[n]
+    lines = chosen if chosen_too else set().union(*(below(scene, line) for line in chosen))
+    return sorted(pose for line, *pose in scene.placings if line in lines)
+
+
 def kinds(pair):
     """What a pair is an example of."""
     (one, other), (chosen, _) = pair.scenes, pair.chosen
+    inner = set().union(*(below(one, line) for line in chosen))
     muted = any(is_muted(one, t) for t in chosen)
     paused = any(not is_muted(one, t) for t in chosen)
     found = {
@@ -105,6 +114,10 @@ def kinds(pair):
         "other sample lengths": len(one.samples) != len(other.samples),
         "other visitor lengths": len(one.visitor) != len(other.visitor),
         "other origins inside": origins(one) != origins(other),
+        "spatial outside": any(row[0] not in inner and row[0] not in chosen for row in one.placings),
+        "other poses of chosen tracks": poses(pair, 0, True) != poses(pair, 1, True),
+        "other poses below": poses(pair, 0, False) != poses(pair, 1, False),
+        "other poses, and a listener": bool(one.listener) and poses(pair, 0, True) != poses(pair, 1, True),
         "send below a paused track": any(r[0] in below(one, t) for r in one.routes for t in chosen),
     }
     return [name for name, holds in found.items() if holds]
@@ -135,13 +148,15 @@ class Draft:
     its line."""
 
     def __init__(self, scene):
-        self.scene, self.tracks, self.routes, self.sounds, self.orders = scene, [], [], [], []
+        self.scene, self.tracks, self.routes, self.sounds, self.placings, self.orders = scene, [], [], [], [], []
         for parent, volume in scene.tracks:
             self.tracks.append(Track(self.tracks[parent - 1] if parent else None, volume))
         for track, send, volume in scene.routes:
             self.routes.append(Route(self.tracks[track - 1], send, volume))
         for track, *place in scene.sounds:
             self.sounds.append((self.tracks[track - 1] if track else None, *place))
+        for track, *pose in scene.placings:
+            self.placings.append((self.tracks[track - 1], *pose))
         for row in scene.orders:
             self.orders.append((self.target(row[1], row[2]), row))
 
@@ -153,7 +168,7 @@ class Draft:
     def copy(self):
         made = Draft(Scene())
         made.scene = self.scene
-        for name in ("tracks", "routes", "sounds", "orders"):
+        for name in ("tracks", "routes", "sounds", "placings", "orders"):
             setattr(made, name, list(getattr(self, name)))
         return made
 
@@ -164,6 +179,7 @@ class Draft:
         self.tracks = [t for t in self.tracks if t not in inner]
         self.routes = [r for r in self.routes if r not in routes]
         self.sounds = [s for s in self.sounds if s[0] not in inner and s[0] not in chosen]
+        self.placings = [p for p in self.placings if p[0] not in inner and p[0] not in chosen]
         self.orders = [o for o in self.orders if o[0] not in inner and o[0] not in routes]
 
     def room(self, table):
@@ -175,9 +191,11 @@ class Draft:
         index = lambda target: tracks.get(target) or routes.get(target) or target
         return Scene(
             head=self.scene.head, clocks=self.scene.clocks, sends=self.scene.sends, samples=samples, visitor=visitor,
+            listener=self.scene.listener,
             tracks=[[tracks[t.parent], t.volume] for t in self.tracks],
             routes=[[tracks[r.track], r.send, r.volume] for r in self.routes],
             sounds=[[tracks[track], *place] for track, *place in self.sounds],
+            placings=[[tracks[track], *pose] for track, *pose in self.placings],
             orders=[row[:INDEX] + [index(target)] + row[INDEX + 1 :] for target, row in self.orders],
         )  # fmt: skip
 
@@ -235,6 +253,7 @@ class Inside:
                 self.add_route()
             for _ in range(scenes.count(rng, min(40, draft.room("orders")))):
                 self.add_order()
+            self.add_placings()
 
     def add_track(self):
         parents = [t for t in self.holders if t.depth() < scenes.DEEPEST]
@@ -266,6 +285,15 @@ class Inside:
             kind, target = self.rng.pick(inner)
             row = order_line(self.rng, self.draft, kind, self.limits)
             inserted(self.rng, self.draft.orders, (target, row))
+
+    def add_placings(self):
+        """Poses of the chosen tracks themselves, and of those below them."""
+        rng, listener = self.rng, self.draft.scene.listener
+        # A control pair's inside shall be heard.
+        holders = [] if self.limits.audible else rng.subset(self.holders, rng.pick([0, 1, len(self.holders)]))
+        for track in holders[: self.draft.room("placings")]:
+            pose = scenes.pose(rng, listener[0] if listener else None)
+            inserted(rng, self.draft.placings, (track, *pose))
 
     def add_sounds(self, both, least=0):
         """Sounds inside, of buffers of so many frames; at least some of them
@@ -352,10 +380,8 @@ def control(rng, kind):
     draft.remove_inside(chosen)
     muted = breaking(rng, draft, chosen[0], limits) == "muted"
     one, other = (side(rng, draft, chosen, chosen if muted else [], limits, 8, **options) for _ in range(2))
-    if kind == "outside-frame":
-        change_outside(one[0], other[0])
-    if kind == "outside-origin":
-        swap_outside(one[0], other[0])
+    if kind in CHANGES:
+        CHANGES[kind](rng, one[0], other[0])
     return Pair(*zip(one, other))
 
 
@@ -428,17 +454,40 @@ def resume(rng, draft, track, limits):
     inserted(rng, draft.orders, (track, row), 0 if later else paused + 1)
 
 
-@breaks()
-def outside_frame(rng, draft, track, limits):
+# Controls that keep the rules for chosen tracks, and change one thing outside in
+# the second scene.
+
+CHANGES = {}
+
+
+def changes_outside(draft_with):
+    """A function of both scenes, over drafts that another has made ready."""
+
+    def listed(change):
+        kind = change.__name__.replace("_", "-")
+        CHANGES[kind], CONTROLS[kind] = change, (draft_with, {})
+        return change
+
+    return listed
+
+
+def silenced(rng, draft, track, limits):
     (mute if rng.chance(1, 2) else pause)(rng, draft, track, limits)
     # No lines inside a muted track are routed, so the kind makes no difference.
     return "muted"
 
 
-@breaks()
-def outside_origin(rng, draft, track, limits):
-    (mute if rng.chance(1, 2) else pause)(rng, draft, track, limits)
-    return "muted"
+def silenced_and_placed(rng, draft, track, limits):
+    """And one spatial track outside, between near and far, with a sound."""
+    listener = [125 * rng.between(-800, 800) for _ in range(3)]
+    step, length = rng.pick(scenes.STEPS)
+    place = [at + 1000 * part for at, part in zip(listener, step)]
+    outside = Track(None, 0)
+    draft.tracks.append(outside)
+    draft.sounds.append((outside, len(draft.scene.samples) // 2 - 32, 32, 0))
+    draft.placings.append((outside, *place, rng.below(500), 1000 * length + rng.between(2000, 90_000)))
+    draft.scene.tables["listener"] = [listener]
+    return silenced(rng, draft, track, limits)
 
 
 def main_sound(scene):
@@ -451,13 +500,15 @@ def other_bits(sample):
     return quarter if sample == half else half
 
 
-def change_outside(one, other):
+@changes_outside(silenced)
+def outside_frame(rng, one, other):
     """Another first frame of that sound."""
     first = one.get("sounds", main_sound(one), "first")
     other.samples[2 * first] = other_bits(one.samples[2 * first])
 
 
-def swap_outside(one, other):
+@changes_outside(silenced)
+def outside_origin(rng, one, other):
     """That sound from the visitor, whose first frame there is another."""
     line = main_sound(other)
     first, count = (other.get("sounds", line, name) for name in ("first", "count"))
@@ -465,3 +516,23 @@ def swap_outside(one, other):
     other.set("sounds", line, "first", len(other.visitor) // 2)
     other.set("sounds", line, "from", 1)
     other.visitor += [other_bits(played[0]), *played[1:]]
+
+
+@changes_outside(silenced_and_placed)
+def outside_pose(rng, one, other):
+    """That track nearer to the listener or farther away, or with other distances."""
+    name = rng.pick(["x", "y", "z", "far"])
+    other.set("placings", 1, name, other.get("placings", 1, name) + rng.pick([1, 100, 1500]))
+
+
+@changes_outside(silenced_and_placed)
+def outside_placing(rng, one, other):
+    """That track plain."""
+    other.tables["placings"] = []
+
+
+@changes_outside(silenced_and_placed)
+def outside_listener(rng, one, other):
+    """The listener gone, or a step away."""
+    (x, y, z), = other.listener
+    other.tables["listener"] = [] if rng.chance(1, 2) else [[x + rng.pick([1, 100, -1500]), y, z]]

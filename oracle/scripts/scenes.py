@@ -1,5 +1,5 @@
 """Accepted scenes from a seed."""
-from tables import MOST_LINES, PROGRAM_LIMIT, Random, Scene, bits
+from tables import MOST_LINES, PROGRAM_LIMIT, Random, Scene, all_bits, bits
 
 DEEPEST = 4
 RATES = [8000, 8192, 11025, 16000, 22050, 32000, 44100, 48000, 96000, 192000]
@@ -7,6 +7,9 @@ BUFFERS = [1, 2, 3, 5, 7, 8, 16, 24, 32, 64, 72, 100, 128, 255, 256]
 COMMON_VOLUMES = [0, 0, 0, 1, -1, -3000, -6000, -6021, 4004, -20000]
 EDGE_VOLUMES = [-96000, -63996, -60001, -60000, -60000, -59999, -59950, 17999, 18000]
 VOLUMES = COMMON_VOLUMES + EDGE_VOLUMES
+# Steps whose length is whole: 3 4 0 has 5.
+STEPS = [([1, 0, 0], 1), ([3, 4, 0], 5), ([1, 2, 2], 3), ([2, 3, 6], 7), ([4, 4, 7], 9), ([2, 10, 11], 15)]
+FARTHEST = 1_000_000
 SPECIAL_SAMPLES = [bits(x) for x in (0.0, -0.0, 1.0, -1.0, 0.5, -0.25, 1e-45, -1e-45, 2e-39)]
 
 
@@ -77,16 +80,17 @@ def routes(rng, limits, tracks, sends):
     return [[t, s, volume(rng, limits)] for t, s in dict.fromkeys(chosen)]
 
 
-def sample(rng, scale):
-    if rng.chance(1, 12):
-        return rng.pick(SPECIAL_SAMPLES)
-    return bits((rng.below(2**25 + 1) / 2**24 - 1) * scale)
-
-
 def samples(rng, frames):
+    """A word gives both samples of a frame: of 32 bits 25 are the value, and
+    the others tell which samples are special, about one in twelve."""
     # Loud sums clamp, and then hide what differs: most buffers are quiet.
     scale = rng.pick([1.0, 0.25, 2**-5, 2**-8])
-    return [sample(rng, scale) for _ in range(2 * frames)]
+    halves = [half for word in rng.words(frames) for half in (word & 0xFFFFFFFF, word >> 32)]
+    made = all_bits([((half & 0x1FFFFFF) / 2**24 - 1) * scale for half in halves])
+    for place, half in enumerate(halves):
+        if half >> 25 < 11:
+            made[place] = SPECIAL_SAMPLES[half % len(SPECIAL_SAMPLES)]
+    return made
 
 
 def sound(rng, tracks, both):
@@ -97,6 +101,72 @@ def sound(rng, tracks, both):
     rest = frames - first
     length = rng.pick([0, 1, rng.below(rest + 1), rest, rest, rest])
     return [rng.below(tracks + 1), first, min(length, frames - first), origin]
+
+
+def listener(rng):
+    # Eighths are exact in f32.
+    return [125 * rng.between(-1600, 1600) for _ in range(3)] if rng.chance(3, 4) else any_place(rng)
+
+
+def any_place(rng):
+    edges = [-FARTHEST, 1 - FARTHEST, -1, 0, 1, 1001, FARTHEST - 1, FARTHEST]
+    return [rng.pick(edges) if rng.chance(1, 2) else rng.between(-FARTHEST, FARTHEST) for _ in range(3)]
+
+
+def any_distances(rng):
+    near = rng.pick([0, 1, FARTHEST - 1, rng.below(FARTHEST)])
+    return [near, rng.pick([near + 1, FARTHEST, rng.between(near + 1, FARTHEST)])]
+
+
+def distances(rng, distance):
+    """Near and far, by where a track at that distance shall stand."""
+    if distance < 2:
+        return any_distances(rng)
+    way = rng.pick(["between"] * 4 + ["inside", "near", "far", "beyond"])
+    if way == "inside" and distance < FARTHEST - 1:
+        near = rng.between(distance + 1, FARTHEST - 1)
+    elif way in ("far", "beyond"):
+        near = rng.below(distance - 1)
+    else:
+        near = distance if way == "near" else rng.below(distance)
+    if way == "far":
+        return [near, distance]
+    if way == "beyond":
+        return [near, rng.between(near + 1, distance - 1)]
+    return [near, min(FARTHEST, max(near, distance) + rng.between(1, 3 * distance))]
+
+
+def pose(rng, heard_from):
+    """Fields x, y, z, near and far: somewhere, or a step of whole length from
+    the listener, so that edges are met exactly."""
+    if heard_from is None or rng.chance(1, 4):
+        return any_place(rng) + any_distances(rng)
+    step, length = rng.pick(STEPS)
+    size = 125 * rng.below(rng.pick([1, 8, 200, 400]))
+    place = [at + rng.pick([-1, 1]) * size * part for at, part in zip(heard_from, step[::rng.pick([-1, 1])])]
+    if not all(-FARTHEST <= at <= FARTHEST for at in place) or size * length >= FARTHEST:
+        return any_place(rng) + any_distances(rng)
+    return place + distances(rng, size * length)
+
+
+def placings(rng, scene):
+    """Of some tracks, each once, in any order of lines."""
+    heard_from = scene.listener[0] if scene.listener else None
+    lines = list(range(1, len(scene.tracks) + 1))
+    chosen = rng.subset(lines, rng.pick([1, len(lines) // 2 + 1, len(lines)]))
+    made = []
+    for line in chosen:
+        made.insert(rng.below(len(made) + 1), [line, *pose(rng, heard_from)])
+    return made
+
+
+def room(rng, scene, limits):
+    """A third of the scenes have spatial tracks; most of them a listener."""
+    spatial = rng.chance(2, 5) and scene.tracks and not limits.audible
+    if rng.chance(5, 6) if spatial else rng.chance(1, 12):
+        scene.tables["listener"] = [listener(rng)]
+    if spatial:
+        scene.tables["placings"] = placings(rng, scene)[: limits.lines["placings"]]
 
 
 def shows_millis(head):
@@ -172,6 +242,7 @@ def scene(rng, limits=Limits()):
     sounds = rng.pick([0, 1, 1, 2]) + count(rng, limits.lines["sounds"] - 2)
     tables["sounds"] = [sound(rng, len(made.tracks), both) for _ in range(sounds)]
     tables["orders"] = orders(rng, made, limits)
+    room(rng, made, limits)
     return made
 
 

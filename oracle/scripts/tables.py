@@ -8,11 +8,13 @@ NAMES = {
     "sends": "volume",
     "routes": "track send volume",
     "sounds": "track first count from",
+    "listener": "x y z",
+    "placings": "track x y z near far",
     "orders": "block kind index volume clock when part millis easing power",
 }
 MOST_LINES = {
     "head": 1, "clocks": 8, "tracks": 32, "sends": 8,
-    "routes": 64, "sounds": 64, "orders": 128,
+    "routes": 64, "sounds": 64, "listener": 1, "placings": 32, "orders": 128,
 }  # fmt: skip
 PROGRAM_LIMIT = 8192
 
@@ -71,6 +73,11 @@ def bits(x):
     return struct.unpack("<I", struct.pack("<f", x))[0]
 
 
+def all_bits(numbers):
+    """Of a list, at once."""
+    return list(struct.unpack(f"<{len(numbers)}I", struct.pack(f"<{len(numbers)}f", *numbers)))
+
+
 def number(f32_bits):
     return struct.unpack("<f", struct.pack("<I", f32_bits))[0]
 
@@ -99,6 +106,17 @@ class Random:
         z = ((z ^ (z >> 30)) * 0xBF58476D1CE4E5B9) & self.MASK
         z = ((z ^ (z >> 27)) * 0x94D049BB133111EB) & self.MASK
         return z ^ (z >> 31)
+
+    def words(self, count):
+        """As many words, in one loop: samples need many."""
+        state, mask, made = self.state, self.MASK, []
+        for _ in range(count):
+            state = (state + 0x9E3779B97F4A7C15) & mask
+            z = ((state ^ (state >> 30)) * 0xBF58476D1CE4E5B9) & mask
+            z = ((z ^ (z >> 27)) * 0x94D049BB133111EB) & mask
+            made.append(z ^ (z >> 31))
+        self.state = state
+        return made
 
     def below(self, n):
         return self.word() % n

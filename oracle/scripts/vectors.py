@@ -93,6 +93,16 @@ def interpolation(rng):
 
 
 @leaf
+def attenuation(rng):
+    """A listener's place, and a track's pose."""
+    yield from ["0 0 0 0 0 0 0 1", "0 0 0 0 0 0 1 2", "0 0 0 3000 4000 0 5000 6000", "0 0 0 3000 4000 0 4000 5000"]
+    yield from ["0 0 0 3000 4000 0 0 10000", "1000000 1000000 1000000 -1000000 -1000000 -1000000 0 1000000"]
+    while True:
+        listener = scenes.listener(rng)
+        yield " ".join(map(str, listener + scenes.pose(rng, listener)))
+
+
+@leaf
 def clock(rng):
     yield f"1 2000 1 {' '.join([str(double_bits(1 / 64))] * 33)}"
     while True:

@@ -4,31 +4,15 @@
 use std::sync::Arc;
 
 use atomic_arena::Arena;
-use glam::Vec3;
+use glam::{Quat, Vec3};
 
-use crate::{Decibels, Value, backend::RendererShared, listener::ListenerId};
+use crate::{Frame, Value, backend::RendererShared, listener::ListenerId};
 
-use super::{SendTrackId, SpatialTrackBuilder, Track, TrackHandle};
+use super::{SpatialTrackBuilder, Track, TrackHandle};
 
-pub struct TrackBuilder(SpatialTrackBuilder);
+pub struct TrackBuilder(pub(crate) SpatialTrackBuilder);
 
 impl TrackBuilder {
-	pub fn new() -> Self {
-		Self(SpatialTrackBuilder::new())
-	}
-
-	pub fn volume(self, volume: impl Into<Value<Decibels>>) -> Self {
-		Self(self.0.volume(volume))
-	}
-
-	pub fn with_send(
-		self,
-		track: impl Into<SendTrackId>,
-		volume: impl Into<Value<Decibels>>,
-	) -> Self {
-		Self(self.0.with_send(track, volume))
-	}
-
 	pub(crate) fn build(
 		self,
 		renderer_shared: Arc<RendererShared>,
@@ -43,6 +27,20 @@ impl TrackBuilder {
 		track.spatial_data = None;
 		(track, TrackHandle(handle))
 	}
+}
+
+/// Ours: a frame of a spatial track as a still listener hears it, by kira's
+/// `spatialize`, for the leaves.
+pub(crate) fn spatialized(
+	builder: SpatialTrackBuilder,
+	listener: Vec3,
+	position: Vec3,
+	frame: Frame,
+) -> Frame {
+	let shared = Arc::new(RendererShared::new(48_000));
+	let (track, _) = builder.build(shared, 1, no_listener(), Value::Fixed(position));
+	let spatial_data = track.spatial_data.expect("a spatial track");
+	spatial_data.spatialize(frame, listener, Quat::IDENTITY, 0.0)
 }
 
 /// An id that is forgotten with the track's spatial data.

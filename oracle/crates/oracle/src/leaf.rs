@@ -4,7 +4,7 @@
 use std::io::{self, BufRead, Write};
 
 use kira_table::leaves::{self, Chunk, Clocks, Event};
-use scene::{Order, Start};
+use scene::{Order, Placing, Position, Start};
 
 pub fn run(input: &mut impl BufRead, output: &mut impl Write) -> io::Result<()> {
 	for line in input.lines() {
@@ -35,6 +35,7 @@ fn answer(line: &str) -> Option<String> {
 		"interpolation" => leaves::interpolated(words.f32()?, words.f32()?, words.f64()?)
 			.to_bits()
 			.to_string(),
+		"attenuation" => attenuation(&mut words)?.to_bits().to_string(),
 		"clock" => clock(&mut words)?,
 		"parameter" => parameter(request)?,
 		"playback" => playback(request)?,
@@ -73,6 +74,26 @@ fn all<T>(words: &mut Words, mut read: impl FnMut(&mut Words) -> Option<T>) -> O
 		items.push(read(words)?);
 	}
 	Some(items)
+}
+
+/// The fields of a listener's line, and of a placing's but its track.
+fn attenuation(words: &mut Words) -> Option<f32> {
+	let listener = position(words)?;
+	let placing = Placing {
+		track: 1,
+		position: position(words)?,
+		near: words.number()?,
+		far: words.number()?,
+	};
+	Some(leaves::attenuation(listener, &placing))
+}
+
+fn position(words: &mut Words) -> Option<Position> {
+	Some(Position {
+		x: words.number()?,
+		y: words.number()?,
+		z: words.number()?,
+	})
 }
 
 fn clock(words: &mut Words) -> Option<String> {

@@ -15,6 +15,12 @@ track send volume
 track first count from
 1 0 256 0
 
+x y z
+0 0 0
+
+track x y z near far
+1 3000 4000 0 1000 100000
+
 block kind index volume clock when part millis easing power
 2 1 1 -20000 0 0 0 3 3 3
 ";

@@ -1,4 +1,4 @@
-//! The seven tables and the file's grammar.
+//! The nine tables and the file's grammar.
 
 use std::ops::RangeInclusive;
 
@@ -11,6 +11,8 @@ pub enum Table {
 	Sends,
 	Routes,
 	Sounds,
+	Listener,
+	Placings,
 	Orders,
 }
 
@@ -43,9 +45,12 @@ impl Layout {
 }
 
 const VOLUME: Field = Range("volume", -96000..=18000);
+const X: Field = Range("x", -1_000_000..=1_000_000);
+const Y: Field = Range("y", -1_000_000..=1_000_000);
+const Z: Field = Range("z", -1_000_000..=1_000_000);
 
 /// In the order of `Table` and of the file.
-pub static TABLES: [Layout; 7] = [
+pub static TABLES: [Layout; 9] = [
 	Layout {
 		lines: 1..=1,
 		fields: &[
@@ -87,6 +92,21 @@ pub static TABLES: [Layout; 7] = [
 		],
 	},
 	Layout {
+		lines: 0..=1,
+		fields: &[X, Y, Z],
+	},
+	Layout {
+		lines: 0..=32,
+		fields: &[
+			Reference("track"),
+			X,
+			Y,
+			Z,
+			Range("near", 0..=1_000_000),
+			Range("far", 0..=1_000_000),
+		],
+	},
+	Layout {
 		lines: 0..=128,
 		fields: &[
 			Range("block", 0..=1023),
@@ -120,7 +140,7 @@ impl Rows {
 	}
 
 	/// Reads a file whose last byte is a line feed; `None` where it is not
-	/// seven tables, each as spelled, with one empty line between two.
+	/// nine tables, each as spelled, with one empty line between two.
 	pub fn read(file: &[u8]) -> Option<Self> {
 		let text = file.strip_suffix(b"\n")?;
 		let mut lines = text.split(|byte| *byte == b'\n');

@@ -55,6 +55,24 @@ pub struct Sound {
 	pub from: usize,
 }
 
+/// A place in the room, in thousandths.
+#[derive(Debug, Clone, Copy)]
+pub struct Position {
+	pub x: i32,
+	pub y: i32,
+	pub z: i32,
+}
+
+/// Where a track stands, and from which distance to which it falls silent, in
+/// thousandths.
+#[derive(Debug, Clone, Copy)]
+pub struct Placing {
+	pub track: usize,
+	pub position: Position,
+	pub near: i32,
+	pub far: i32,
+}
+
 /// A sample buffer that sounds play from. `broken`: its bytes end inside a
 /// number, as those of a file can.
 #[derive(Debug, Clone)]
@@ -126,6 +144,8 @@ pub struct Scene {
 	pub sends: Vec<Send>,
 	pub routes: Vec<Route>,
 	pub sounds: Vec<Sound>,
+	pub listener: Option<Position>,
+	pub placings: Vec<Placing>,
 	pub orders: Vec<Order>,
 }
 
@@ -142,6 +162,10 @@ impl Scene {
 				.collect(),
 			routes: each(Table::Routes).map(|row| Route::read(row)).collect(),
 			sounds: each(Table::Sounds).map(|row| Sound::read(row)).collect(),
+			listener: each(Table::Listener).map(|row| Position::read(row)).next(),
+			placings: each(Table::Placings)
+				.map(|row| Placing::read(row))
+				.collect(),
 			orders: each(Table::Orders).map(|row| Order::read(row)).collect(),
 		}
 	}
@@ -196,6 +220,27 @@ impl Sound {
 			first: row[1] as usize,
 			count: row[2] as usize,
 			from: row[3] as usize,
+		}
+	}
+}
+
+impl Position {
+	fn read(row: &[i32]) -> Self {
+		Self {
+			x: row[0],
+			y: row[1],
+			z: row[2],
+		}
+	}
+}
+
+impl Placing {
+	fn read(row: &[i32]) -> Self {
+		Self {
+			track: row[0] as usize,
+			position: Position::read(&row[1..4]),
+			near: row[4],
+			far: row[5],
 		}
 	}
 }

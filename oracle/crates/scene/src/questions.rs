@@ -26,6 +26,7 @@ pub fn accepted(file: &[u8]) -> Result<Scene, Refusal> {
 	let scene = Scene::read(&rows);
 	ask(6, depths(&scene).into_iter().all(|depth| depth <= DEEPEST))?;
 	ask(7, routes_once(&scene))?;
+	ask(7, tracks_placed_once(&scene))?;
 	Ok(scene)
 }
 
@@ -74,6 +75,7 @@ fn fields_in_range(rows: &Rows) -> bool {
 	rows.tables()
 		.all(|(layout, rows)| rows.iter().all(|row| row_in_range(layout, row)))
 		&& rows.of(Table::Clocks).iter().all(|row| speed_in_range(row))
+		&& rows.of(Table::Placings).iter().all(|row| row[4] < row[5])
 		&& rows
 			.of(Table::Orders)
 			.iter()
@@ -123,10 +125,12 @@ fn references_name_lines(rows: &Rows) -> bool {
 	let mut tracks = rows.of(Table::Tracks).iter().zip(0..);
 	let mut routes = rows.of(Table::Routes).iter();
 	let mut sounds = rows.of(Table::Sounds).iter();
+	let mut placings = rows.of(Table::Placings).iter();
 	let mut orders = rows.of(Table::Orders).iter();
 	tracks.all(|(row, earlier)| (0..=earlier).contains(&row[0]))
 		&& routes.all(|row| line(Table::Tracks, row[0]) && line(Table::Sends, row[1]))
 		&& sounds.all(|row| line_or_0(Table::Tracks, row[0]))
+		&& placings.all(|row| line(Table::Tracks, row[0]))
 		&& orders.all(|row| named(row[1], row[2]) && line_or_0(Table::Clocks, row[4]))
 }
 
@@ -143,4 +147,10 @@ fn routes_once(scene: &Scene) -> bool {
 	let mut seen = HashSet::new();
 	let mut routes = scene.routes.iter();
 	routes.all(|route| seen.insert((route.track, route.send)))
+}
+
+fn tracks_placed_once(scene: &Scene) -> bool {
+	let mut seen = HashSet::new();
+	let mut placings = scene.placings.iter();
+	placings.all(|placing| seen.insert(placing.track))
 }

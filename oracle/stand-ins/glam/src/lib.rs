@@ -1,8 +1,10 @@
 //! Stand-in for the crate `glam`, as far as kira's text uses it.
 //!
-//! No scene has a listener or a spatial track yet, so none of this runs. The
-//! length is the root of x² + y² + z², summed left to right; a point that
-//! stands still stays exactly where it is under `lerp`.
+//! The length is the root of x² + y² + z², summed left to right; `f32::sqrt` is
+//! the nearest number. A point that stands still stays exactly where it is under
+//! `lerp`: a + (a - a) t is a, but for a = -0.0, which no coordinate is. All
+//! listeners stand still, unrotated, and nothing is panned, so that directions
+//! and rotations reach no sample.
 
 use std::ops::{Add, Mul, Sub};
 
