@@ -19,6 +19,7 @@ ROOT = pathlib.Path(__file__).resolve().parent.parent
 ROUTINES = {
     "decibels": ["Decibels::as_amplitude", "room_desk_amplitude"],
     "room_desk": ["render", "room_desk_render"],
+    "silent_tracks": ["silent", "room_desk_silent"],
     "render_files": ["render_text"],
     "month_files": ["month_text"],
     "wave": ["room_desk_wave_info", "room_desk_wave_read", "room_desk_wave_write", "room_desk_wave_length"],
@@ -41,6 +42,8 @@ THEOREMS = [
     ("pause_end", "pause-advances"),
     ("pause_end", "pause-ends"),
     ("pause_end", "c-too-early"),
+    ("silent_tracks", "all-may-be-chosen"),
+    ("silent_tracks", "silent-or-removed"),
     ("render_files", "first-bytes"),
     ("pcm", "plus-multiple"),
     ("pcm", "minus-multiple"),

@@ -1,0 +1,7 @@
+pub mod Answer
+pub mod Below
+pub mod Held
+pub mod Muted
+pub mod Orders
+pub mod Places
+pub mod Silence

@@ -1,0 +1,10 @@
+// Which tracks of a scene are silent by the input alone: muted, held, or inside such a track.
+mod answer;
+mod below;
+mod held;
+mod muted;
+mod orders;
+mod tracks;
+
+pub use answer::room_desk_silent;
+pub use answer::silent;
