@@ -1,7 +1,7 @@
 #!/usr/bin/env python3
 """Instructions a frame of each side, by callgrind: the same on every run, whatever the machine does.
 
-usage: bench/instructions.py [SCENE...]     (steady fading single paused placed, or growth-1 … growth-32)
+usage: bench/instructions.py [SCENE...]     (steady fading single paused placed waiting short wide empty, or growth-1 … growth-32)
 
 Counted is what the clock times: `room_desk_render`, and of kira the harness's `Show::render`, in a show of 64 blocks. The
 C library is told to clear and copy by plain instructions: callgrind counts `rep stosb` as one instruction a byte.
@@ -42,4 +42,4 @@ def main(scenes):
 
 
 if __name__ == "__main__":
-    main(sys.argv[1:] or ["steady", "fading", "single", "paused", "placed"])
+    main(sys.argv[1:] or ["steady", "fading", "single", "paused", "placed", "waiting", "short", "wide", "empty"])

@@ -11,7 +11,7 @@ use std::{env, process::ExitCode};
 
 const USAGE: &str = "usage: bench [--rounds N] [--blocks N] [SCENE...]
        bench [--blocks N] --only SIDE SCENE   renders once, for a profiler; SIDE: room_desk powf table
-scenes: steady fading single paused placed growth (or growth-1, -2, -4, -8, -16, -32); all by default";
+scenes: steady fading single paused placed waiting short wide empty growth (or growth-1, -2, -4, -8, -16, -32); all by default";
 
 struct Options {
 	rounds: usize,
@@ -52,9 +52,12 @@ fn options(words: &[String]) -> Option<Options> {
 		}
 	}
 	if options.names.is_empty() {
-		options.names = ["steady", "fading", "single", "paused", "placed", "growth"]
-			.map(String::from)
-			.into();
+		options.names = [
+			"steady", "fading", "single", "paused", "placed", "waiting", "short", "wide", "empty",
+			"growth",
+		]
+		.map(String::from)
+		.into();
 	}
 	options.names = options
 		.names

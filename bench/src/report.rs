@@ -11,7 +11,7 @@ const TABLE: usize = 2;
 
 pub fn heading(blocks: usize, rounds: usize) {
 	println!(
-		"48,000 Hz, 2 channels, buffer 128, {blocks} blocks of 512 frames; {rounds} rounds of all scenes, the three in turn."
+		"48,000 Hz, {blocks} blocks of 512 frames; {rounds} rounds of all scenes, the three in turn."
 	);
 	println!(
 		"Only the rendering is timed, by the processor time of its thread. Before each render the output"

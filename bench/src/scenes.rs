@@ -1,5 +1,5 @@
-//! The scenes, by fixed rules. All have 48,000 Hz, two channels, a buffer of
-//! 128 frames and blocks of 512, and every sound plays the whole show.
+//! The scenes, by fixed rules. All have 48,000 Hz and blocks of 512 frames, most
+//! two channels and a buffer of 128; every sound plays the whole show.
 
 use std::fmt::Write;
 
@@ -39,12 +39,36 @@ pub fn scene(name: &str, blocks: usize) -> Option<Scene> {
 			placings: placings(32),
 			..steady(32)
 		},
+		"waiting" => Tables {
+			orders: vec![waits()],
+			..single()
+		},
+		"short" => Tables {
+			buffer: 16,
+			orders: fades(blocks),
+			..steady(32)
+		},
+		"wide" => Tables {
+			channels: 8,
+			..single()
+		},
+		"empty" => Tables {
+			buffer: 16,
+			tracks: vec![],
+			sounds: vec![],
+			orders: vec![waits()],
+			..single()
+		},
 		_ => steady(growth_tracks(name)?),
+	};
+	let sample_frames = match tables.sounds.len() {
+		0 => 0,
+		sounds => blocks * BLOCK + (sounds - 1) * APART,
 	};
 	Some(Scene {
 		name: name.into(),
 		file: tables.file(blocks),
-		sample_frames: blocks * BLOCK + (tables.sounds.len() - 1) * APART,
+		sample_frames,
 	})
 }
 
@@ -68,6 +92,8 @@ pub fn samples(frames: usize) -> Vec<f32> {
 }
 
 struct Tables {
+	channels: usize,
+	buffer: usize,
 	volume: i32,
 	tracks: Vec<[usize; 1]>,
 	sends: usize,
@@ -94,8 +120,9 @@ impl Tables {
 		let count = blocks * BLOCK;
 		let sounds = self.sounds.iter().zip(0..);
 		let sounds = sounds.map(|(track, k)| format!("{track} {} {count} {}", k * APART, k % 2));
+		let (channels, buffer) = (self.channels, self.buffer);
 		let mut text = format!(
-			"rate channels buffer block blocks volume\n48000 2 128 {BLOCK} {blocks} {volume}\n"
+			"rate channels buffer block blocks volume\n48000 {channels} {buffer} {BLOCK} {blocks} {volume}\n"
 		);
 		table(&mut text, "unit speed ticking", []);
 		table(&mut text, "parent volume", tracks);
@@ -133,6 +160,8 @@ fn steady(tracks: usize) -> Tables {
 	};
 	let send = |track: usize, step: usize| (track + step) % SENDS + 1;
 	Tables {
+		channels: 2,
+		buffer: 128,
 		volume: -3000,
 		tracks: (1..=tracks).map(|track| [parent(track)]).collect(),
 		sends: SENDS,
@@ -155,6 +184,8 @@ fn placings(tracks: i32) -> Vec<String> {
 /// One track at 0 dB with one sound; the main track at 0 dB too.
 fn single() -> Tables {
 	Tables {
+		channels: 2,
+		buffer: 128,
 		volume: 0,
 		tracks: vec![[0]],
 		sends: 0,
@@ -184,4 +215,9 @@ fn pauses() -> Vec<String> {
 	let tops = (1..=32).step_by(2 * CHAIN);
 	tops.map(|track| format!("0 4 {track} 0 0 0 0 0 0 0"))
 		.collect()
+}
+
+/// The main volume, in an hour: its start is waited for through the whole show.
+fn waits() -> String {
+	"0 0 0 -6000 0 3600000 0 1 0 0".into()
 }

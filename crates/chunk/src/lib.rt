@@ -17,6 +17,7 @@ pub use flat::PARENTS;
 pub use flat::PLACES;
 pub use flat::Places;
 pub use flat::ROUTE_COUNT;
+pub use flat::ROUTE_TRACKS;
 pub use flat::SEND_COUNT;
 pub use flat::SOUND_COUNT;
 pub use flat::SOUND_LEFTS;

@@ -33,3 +33,7 @@ lineBefore links line = getD links (owners + (line - 1)) 0
 -- a column of owners in an array, from a place on
 abbrev pub columnFrom : List ℕ → ℕ → ℕ → ℕ
 columnFrom column first k = getD column (first + k) 0
+
+-- the same with its n lines counted from the end
+abbrev pub columnBack : List ℕ → ℕ → ℕ → ℕ → ℕ
+columnBack column first n k = getD column (first + (n - (k + 1))) 0

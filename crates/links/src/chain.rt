@@ -2,7 +2,7 @@
 ghost use mathlib.Core.Path.{_≡_};
 ghost use Prim.Native.Nat.{_+_, _≤_, _<_};
 ghost use lib.ListN.{length};
-ghost use Rattle.links.specs.Links.{owners, lines, linksOf, columnFrom, lastLine, lineBefore};
+ghost use Rattle.links.specs.Links.{owners, lines, linksOf, columnFrom, columnBack, lastLine, lineBefore};
 use limits::SOUND_LINES;
 use limits::TRACK_PLACES;
 
@@ -30,6 +30,26 @@ pub fn links_of(column: &[usize], first: usize, count: usize) -> Links
         if owner < OWNERS {
             links[at] = links[owner];
             links[owner] = k;
+        }
+    }
+    links
+}
+
+// The same with the column's lines counted from its end: followed, an owner's lines come in the
+// column's order. Line k + 1 stands at place `first + (count - (k + 1))`.
+pub fn links_back(column: &[usize], first: usize, count: usize) -> Links
+    requires { ⌜ (count ≤ lines) × (first + count ≤ length (now column)) ⌝ }
+    ensures { λ r. ⌜ r ≡ linksOf (columnBack (now (column .entry)) first count) count ⌝ }
+{
+    let mut links = [0usize; OWNERS + LINES];
+    let mut line = 0;
+    while line < count {
+        let at = OWNERS + line;
+        line += 1;
+        let holder = column[first + (count - line)];
+        if holder < OWNERS {
+            links[at] = links[holder];
+            links[holder] = line;
         }
     }
     links

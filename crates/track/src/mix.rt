@@ -8,7 +8,7 @@ ghost use Rattle.limits.specs.Limits.{trackDepth};
 ghost use Rattle.frame.specs.Layout.{scratch, withFrames};
 ghost use Rattle.chunk.specs.Chunk.{ChunkOk, partsOf};
 ghost use Rattle.chunk.specs.Flat.{chunkFrom};
-ghost use Rattle.track.specs.Owners.{subTrackLinks, soundLinks};
+ghost use Rattle.track.specs.Owners.{subTrackLinks, soundLinks, routeLinks};
 ghost use Rattle.track.specs.Sub.{withSubSends};
 ghost use Rattle.track.specs.Mix.{mixedSet, tracksSet, withSendTracks};
 ghost use Rattle.track.specs.Send.{sendPlaces, onSends};
@@ -26,6 +26,8 @@ use chunk::Levels;
 use chunk::PARENTS;
 use chunk::PLACES;
 use chunk::Places;
+use chunk::ROUTE_COUNT;
+use chunk::ROUTE_TRACKS;
 use chunk::SEND_COUNT;
 use chunk::SOUND_COUNT;
 use chunk::SOUND_TRACKS;
@@ -42,6 +44,7 @@ use limits::TRACK_DEPTH;
 use links::Links;
 use links::last_line;
 use links::line_before;
+use links::links_back;
 use links::links_of;
 
 // Sets `out` to the sum of the tracks right under the mixer, latest line first.
@@ -51,6 +54,7 @@ fn process_tracks<'a>(
     amplitudes: &Amplitudes,
     sub_tracks: &Links,
     sounds: &Links,
+    routes: &Links,
     parts: &Parts,
     table: &GainTable,
     samples: &'a [f32],
@@ -61,7 +65,7 @@ fn process_tracks<'a>(
     requires { ⌜ IsGainTable (now table) ⌝ }
     requires { ⌜ ChunkOk (chunkFrom (now places) (now levels) (now amplitudes)) (recordings (now samples) (now visitor)) ⌝ }
     requires { ⌜ (let c = chunkFrom (now places) (now levels) (now amplitudes) in
-        (now «sub_tracks» ≡ subTrackLinks c) × (now sounds ≡ soundLinks c)) ⌝ }
+        (now «sub_tracks» ≡ subTrackLinks c) × (now sounds ≡ soundLinks c) × (now routes ≡ routeLinks c)) ⌝ }
     requires { ⌜ (let c = chunkFrom (now places) (now levels) (now amplitudes) in now parts ≡ partsOf (c .frames)) ⌝ }
     requires { ⌜ (let c = chunkFrom (now places) (now levels) (now amplitudes) in 2 * c .frames ≤ length (now out)) ⌝ }
     requires { ⌜ length (now sends) ≡ sendPlaces ⌝ }
@@ -82,6 +86,7 @@ fn process_tracks<'a>(
             amplitudes,
             sub_tracks,
             sounds,
+            routes,
             parts,
             table,
             samples,
@@ -149,12 +154,14 @@ pub fn process_flat<'a>(
     let frames = places[FRAMES];
     let sub_tracks = links_of(places, PARENTS, places[TRACK_COUNT]);
     let sounds = links_of(places, SOUND_TRACKS, places[SOUND_COUNT]);
+    let routes = links_back(places, ROUTE_TRACKS, places[ROUTE_COUNT]);
     process_tracks(
         places,
         levels,
         amplitudes,
         &sub_tracks,
         &sounds,
+        &routes,
         parts,
         table,
         samples,

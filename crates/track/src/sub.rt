@@ -3,12 +3,13 @@ ghost use mathlib.Core.Path.{_≡_};
 ghost use Prim.Native.Nat.{_*_, _≤_};
 ghost use lib.ListN.{length};
 ghost use Rattle.recordings.specs.Recordings.{recordings};
+ghost use Rattle.limits.specs.Limits.{trackPlaces};
 ghost use Rattle.gain_table.specs.GainTable.{IsGainTable};
 ghost use Rattle.frame.specs.Frame.{addedFrom};
 ghost use Rattle.frame.specs.Layout.{scratch, frameAt, withFrames};
 ghost use Rattle.chunk.specs.Chunk.{ChunkOk, partsOf};
 ghost use Rattle.chunk.specs.Flat.{chunkFrom};
-ghost use Rattle.track.specs.Owners.{subTrackLinks, soundLinks};
+ghost use Rattle.track.specs.Owners.{subTrackLinks, soundLinks, routeLinks};
 ghost use Rattle.frame.specs.Running.{AllRunning, AllZero};
 ghost use Rattle.track.specs.Sub.{trackFrame, withTrackSends, withSubSends, sumSet, withRoutesFrom};
 ghost use Rattle.track.specs.Send.{sendPlaces, onSends};
@@ -34,7 +35,7 @@ use track_volume::apply_placing_and_volume;
 // What a chunk's frames are mixed in.
 pub const SCRATCH: usize = 2 * CHUNK_FRAMES;
 
-// Adds the scaled frames to the send tracks that the track is routed to.
+// Adds the scaled frames to the send tracks that the track is routed to, first line first.
 fn add_routes<'a>(
     sends: &mut [f32],
     out: &[f32],
@@ -43,24 +44,26 @@ fn add_routes<'a>(
     amplitudes: &Amplitudes,
     samples: &'a [f32],
     visitor: &'a [f32],
+    links: &Links,
     line: usize,
 )
     requires { ⌜ ChunkOk (chunkFrom (now places) (now levels) (now amplitudes)) (recordings (now samples) (now visitor)) ⌝ }
+    requires { ⌜ (let c = chunkFrom (now places) (now levels) (now amplitudes) in now links ≡ routeLinks c) ⌝ }
     requires { ⌜ (let c = chunkFrom (now places) (now levels) (now amplitudes) in 2 * c .frames ≤ length (now out)) ⌝ }
     requires { ⌜ length (now sends) ≡ sendPlaces ⌝ }
+    requires { ⌜ line ≤ trackPlaces ⌝ }
     ensures { λ _. ⌜ (let c = chunkFrom (now (places .entry)) (now (levels .entry)) (now (amplitudes .entry)) in
         now (sends .exit) ≡ onSends (c .frames) (withRoutesFrom c line (frameAt (scratch 0 (c .frames)) (now (out .entry)))) (now (sends .entry))) ⌝ }
 {
     let frames = places[FRAMES];
-    let mut r = 0;
-    while r < places[ROUTE_COUNT] {
-        let route = route_at(places, levels, amplitudes, r);
-        if route.track == line {
-            let first = (route.send - 1) * SEND_PART;
-            let amplitude = route.amplitude;
-            add_scaled(sends, first, out, frames, amplitude);
-        }
-        r += 1;
+    let count = places[ROUTE_COUNT];
+    let mut r = last_line(links, line);
+    while 0 < r {
+        let route = route_at(places, levels, amplitudes, count - r);
+        let first = (route.send - 1) * SEND_PART;
+        let amplitude = route.amplitude;
+        add_scaled(sends, first, out, frames, amplitude);
+        r = line_before(links, r);
     }
 }
 
@@ -73,6 +76,7 @@ fn gather<'a>(
     amplitudes: &Amplitudes,
     sub_tracks: &Links,
     sounds: &Links,
+    routes: &Links,
     parts: &Parts,
     table: &GainTable,
     samples: &'a [f32],
@@ -85,7 +89,7 @@ fn gather<'a>(
     requires { ⌜ IsGainTable (now table) ⌝ }
     requires { ⌜ ChunkOk (chunkFrom (now places) (now levels) (now amplitudes)) (recordings (now samples) (now visitor)) ⌝ }
     requires { ⌜ (let c = chunkFrom (now places) (now levels) (now amplitudes) in
-        (now «sub_tracks» ≡ subTrackLinks c) × (now sounds ≡ soundLinks c)) ⌝ }
+        (now «sub_tracks» ≡ subTrackLinks c) × (now sounds ≡ soundLinks c) × (now routes ≡ routeLinks c)) ⌝ }
     requires { ⌜ (let c = chunkFrom (now places) (now levels) (now amplitudes) in now parts ≡ partsOf (c .frames)) ⌝ }
     requires { ⌜ (let c = chunkFrom (now places) (now levels) (now amplitudes) in (1 ≤ line) × (line ≤ c .«track_count»)) ⌝ }
     requires { ⌜ (let c = chunkFrom (now places) (now levels) (now amplitudes) in 2 * c .frames ≤ length (now out)) ⌝ }
@@ -106,6 +110,7 @@ fn gather<'a>(
             amplitudes,
             sub_tracks,
             sounds,
+            routes,
             parts,
             table,
             samples,
@@ -139,6 +144,7 @@ pub fn process<'a>(
     amplitudes: &Amplitudes,
     sub_tracks: &Links,
     sounds: &Links,
+    routes: &Links,
     parts: &Parts,
     table: &GainTable,
     samples: &'a [f32],
@@ -151,7 +157,7 @@ pub fn process<'a>(
     requires { ⌜ IsGainTable (now table) ⌝ }
     requires { ⌜ ChunkOk (chunkFrom (now places) (now levels) (now amplitudes)) (recordings (now samples) (now visitor)) ⌝ }
     requires { ⌜ (let c = chunkFrom (now places) (now levels) (now amplitudes) in
-        (now «sub_tracks» ≡ subTrackLinks c) × (now sounds ≡ soundLinks c)) ⌝ }
+        (now «sub_tracks» ≡ subTrackLinks c) × (now sounds ≡ soundLinks c) × (now routes ≡ routeLinks c)) ⌝ }
     requires { ⌜ (let c = chunkFrom (now places) (now levels) (now amplitudes) in now parts ≡ partsOf (c .frames)) ⌝ }
     requires { ⌜ (let c = chunkFrom (now places) (now levels) (now amplitudes) in (1 ≤ line) × (line ≤ c .«track_count»)) ⌝ }
     requires { ⌜ (let c = chunkFrom (now places) (now levels) (now amplitudes) in 2 * c .frames ≤ length (now to)) ⌝ }
@@ -179,6 +185,7 @@ pub fn process<'a>(
         amplitudes,
         sub_tracks,
         sounds,
+        routes,
         parts,
         table,
         samples,
@@ -197,6 +204,7 @@ pub fn process<'a>(
         amplitudes,
         samples,
         visitor,
+        routes,
         line,
     );
     add_frames(to, &out, frames);

@@ -9,16 +9,17 @@ use lib.ListN.{length, getD}
 use lib.Ieee.{Float}
 use Rattle.laws.specs.Loop.{downto}
 use Rattle.links.proofs.laws.Links.{lastOf, last-le, last-owner, last-skips, last-link, next-link, links-cong}
-use Rattle.limits.specs.Limits.{trackPlaces, soundLines}
-use Rattle.links.specs.Links.{owners, lines, linksOf, lastLine, lineBefore, columnFrom}
+use Rattle.limits.specs.Limits.{trackPlaces, routeLines, soundLines}
+use Rattle.links.specs.Links.{owners, lines, linksOf, lastLine, lineBefore, columnFrom, columnBack}
 use Rattle.chunk.specs.declared.chunk.ChunkTrack.{ChunkTrack}
+use Rattle.chunk.specs.declared.chunk.ChunkRoute.{ChunkRoute}
 use Rattle.chunk.specs.declared.chunk.ChunkSound.{ChunkSound}
 use Rattle.frame.specs.declared.frame.Frame.{Frame}
-use Rattle.chunk.specs.Flat.{soundTracksFrom, chunkFrom, trackFrom, soundFrom}
-use Rattle.chunk.proofs.laws.Flat.{track-from, sound-from}
-use Rattle.track.specs.Owners.{subTrackLinks, soundLinks}
+use Rattle.chunk.specs.Flat.{routeTracksFrom, soundTracksFrom, chunkFrom, trackFrom, routeFrom, soundFrom}
+use Rattle.chunk.proofs.laws.Flat.{track-from, route-from, sound-from}
+use Rattle.track.specs.Owners.{subTrackLinks, soundLinks, routeLinks}
 use Rattle.frame.proofs.laws.Turn.{Steps, turns, down-turn, down-done}
-use Rattle.chunk.specs.Chunk.{trackRow, soundRow}
+use Rattle.chunk.specs.Chunk.{trackRow, routeRow, soundRow}
 
 -- The loop stands at line k of m, counted from 1: its owner is `line`, and what the loop over all lines still has to do comes to what it began with.
 -- `with` takes a step on each frame of the buffer.
@@ -78,3 +79,11 @@ module _ (places : List ℕ) (levels amplitudes : List Float) where
       let c = chunkFrom places levels amplitudes in
       e ∙ links-cong (columnFrom places soundTracksFrom) (λ k. soundRow c k .track) (c .«sound_count»)
       (λ k l. sym (ap (λ (s : ChunkSound). s .track) (sound-from places levels amplitudes k (omega (arith, h, l)))))
+
+  pub routes-linked : {links : List ℕ} → chunkFrom places levels amplitudes .«route_count» ≤ routeLines → links ≡ linksOf (columnBack places routeTracksFrom (chunkFrom places levels amplitudes .«route_count»)) (chunkFrom places levels amplitudes .«route_count») → links ≡ routeLinks (chunkFrom places levels amplitudes)
+  unfolding routeLinks routeFrom
+  routes-linked h e =
+      let c = chunkFrom places levels amplitudes in
+      let n = c .«route_count» in
+      e ∙ links-cong (columnBack places routeTracksFrom n) (λ k. routeRow c (n - (k + 1)) .track) n
+      (λ k l. sym (ap (λ (r : ChunkRoute). r .track) (route-from places levels amplitudes (n - (k + 1)) (omega (arith, h, l)))))

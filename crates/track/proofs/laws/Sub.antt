@@ -3,7 +3,7 @@
 use mathlib.Core.Path.{_≡_, refl, sym, ap, _∙_}
 use mathlib.Core.Bool.{Bool, true, false, cond, _&&_}
 use mathlib.Core.List.{List}
-use Prim.Native.Nat.{ℕ, suc, _-_, _*_, _≤_, _<_}
+use Prim.Native.Nat.{ℕ, suc, _+_, _-_, _*_, _≤_, _<_}
 use native.Mathlib.Nat.{le-refl}
 use native.Mathlib.Omega.{arith}
 use borrow.Author.Tests.{eq-eqb, ne-eqb}
@@ -13,7 +13,8 @@ use lib.Ieee.{Float}
 use Rattle.recordings.specs.Recordings.{Recordings}
 use Rattle.limits.specs.Limits.{sendLines, chunkFramesMost}
 use Rattle.laws.proofs.laws.Choice.{cond-true, cond-false}
-use Rattle.laws.specs.Loop.{upto, downto}
+use Rattle.laws.specs.Loop.{downto}
+use Rattle.laws.proofs.laws.Loop.{downto-upto, upto-cong}
 use Rattle.frame.specs.declared.frame.Frame.{Frame}
 use Rattle.chunk.specs.declared.chunk.Chunk.{Chunk}
 use Rattle.frame.specs.Frame.{zeroFrame, added, scaled, addedFrom, addedScaled}
@@ -47,9 +48,22 @@ module _ (c : Chunk) (line : ℕ) (frames : ℕ → Frame) (r : ℕ) (l : List F
       ap (λ (b : Bool). onSends (c .frames) (λ s i x. cond (b && eqb (routeRow c r .send) s) (added x (scaled (frames i) (routeRow c r .amplitude))) x) l) (ne-eqb (routeRow c r .track) line e)
       ∙ onSends-same (c .frames) (λ s i a. a) l (λ s i a. refl)
 
-pub routes-done : (c : Chunk) (line : ℕ) (frames : ℕ → Frame) (l : List Float) → allSends (c .frames) (λ p a. upto (λ r x. routeStep c line frames r p x) (c .«route_count») a) l ≡ onSends (c .frames) (withRoutesFrom c line frames) l
+-- the route on line k + 1, counted from the end
+abbrev pub routeBack : Chunk → ℕ → (ℕ → Frame) → ℕ → ℕ × ℕ → Frame → Frame
+routeBack c line frames k = routeStep c line frames (c .«route_count» - (k + 1))
+
+back-again : (n k : ℕ) → k < n → n - (n - suc k + 1) ≡ k
+back-again n k h = omega arith
+
+-- from the end down is from the first line on
+pub routes-done : (c : Chunk) (line : ℕ) (frames : ℕ → Frame) (l : List Float) → allSends (c .frames) (λ p a. downto (λ k x. routeBack c line frames k p x) (c .«route_count») a) l ≡ onSends (c .frames) (withRoutesFrom c line frames) l
 unfolding withRoutesFrom withRoutes
-routes-done c line frames l = refl
+routes-done c line frames l =
+    let n = c .«route_count» in
+    onSends-cong (c .frames) (λ s i a. downto (λ k x. routeBack c line frames k (s, i) x) n a) (withRoutesFrom c line frames) l
+    (λ s i h a. downto-upto (λ k x. routeBack c line frames k (s, i) x) n a
+    ∙ upto-cong (λ k x. routeBack c line frames (n - suc k) (s, i) x) (λ r x. routeStep c line frames r (s, i) x) n a
+    (λ k b x. ap (λ (r : ℕ). routeStep c line frames r (s, i) x) (back-again n k b)))
 
 -- ---- the tracks below
 

@@ -34,10 +34,10 @@ abbrev Inv : Chunk → Recordings → List Float → List Float → List Float �
 Inv chunk samples out₀ sends₀ out sends j = (length out ≡ length out₀) × (length sends ≡ length sends₀) × Follows (withFrames (scratch 0 (chunk .frames))) (subStep trackDepth chunk samples 0) (chunk .«track_count») (parent chunk) 0 out₀ out j × Follows (allSends (chunk .frames)) (subSend trackDepth chunk samples 0) (chunk .«track_count») (parent chunk) 0 sends₀ sends j × AllRunning (chunk .frames) out
 
 abbrev Inv-loop : tie.InvT-loop
-Inv-loop places levels amplitudes sub-tracks sounds parts table samples visitor out₀ sends₀ frames j₀ out sends j = Inv (chunkFrom places levels amplitudes) (recordings samples visitor) out₀ sends₀ out sends j
+Inv-loop places levels amplitudes sub-tracks sounds routes parts table samples visitor out₀ sends₀ frames j₀ out sends j = Inv (chunkFrom places levels amplitudes) (recordings samples visitor) out₀ sends₀ out sends j
 
 abbrev μ-loop : tie.MeasureT-loop
-μ-loop places levels amplitudes sub-tracks sounds parts table samples visitor out₀ sends₀ frames j₀ out sends j = j
+μ-loop places levels amplitudes sub-tracks sounds routes parts table samples visitor out₀ sends₀ frames j₀ out sends j = j
 
 element-copy-out-frames : tie.Need-element-copy-out-frames Inv-loop μ-loop
 element-copy-out-frames c = search needs

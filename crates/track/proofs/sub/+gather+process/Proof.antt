@@ -66,30 +66,30 @@ Inv chunk samples line d out₀ sends₀ out sends j =
     × Follows (allSends (chunk .frames)) (subSend d chunk samples line) (chunk .«track_count») (parent chunk) line sends₀ sends j
     × AllRunning (chunk .frames) out
 
-abbrev μ-gather : Measures 10 gather-kinds.ps ℕ
-μ-gather κs a = 2 * a .1 .1 .1 .1 .1 .1 .1 .1 .1 .1 .0 + 1
+abbrev μ-gather : Measures 11 gather-kinds.ps ℕ
+μ-gather κs a = 2 * a .1 .1 .1 .1 .1 .1 .1 .1 .1 .1 .1 .0 + 1
 
-abbrev μ-process : Measures 10 process-kinds.ps ℕ
-μ-process κs a = 2 * a .1 .1 .1 .1 .1 .1 .1 .1 .1 .1 .0
+abbrev μ-process : Measures 11 process-kinds.ps ℕ
+μ-process κs a = 2 * a .1 .1 .1 .1 .1 .1 .1 .1 .1 .1 .1 .0
 
-abbrev gather-at : ℕ → In 10 gather-kinds.ps
-gather-at t = and 10 gather-kinds.ps (is 10 gather-kinds.ps μ-gather t) gather.Pre
+abbrev gather-at : ℕ → In 11 gather-kinds.ps
+gather-at t = and 11 gather-kinds.ps (is 11 gather-kinds.ps μ-gather t) gather.Pre
 
-abbrev gather-below : ℕ → In 10 gather-kinds.ps
-gather-below t = and 10 gather-kinds.ps (falls 10 gather-kinds.ps _<_ μ-gather t) gather.Pre
+abbrev gather-below : ℕ → In 11 gather-kinds.ps
+gather-below t = and 11 gather-kinds.ps (falls 11 gather-kinds.ps _<_ μ-gather t) gather.Pre
 
-abbrev process-at : ℕ → In 10 process-kinds.ps
-process-at t = and 10 process-kinds.ps (is 10 process-kinds.ps μ-process t) process.Pre
+abbrev process-at : ℕ → In 11 process-kinds.ps
+process-at t = and 11 process-kinds.ps (is 11 process-kinds.ps μ-process t) process.Pre
 
-abbrev process-below : ℕ → In 10 process-kinds.ps
-process-below t = and 10 process-kinds.ps (falls 10 process-kinds.ps _<_ μ-process t) process.Pre
+abbrev process-below : ℕ → In 11 process-kinds.ps
+process-below t = and 11 process-kinds.ps (falls 11 process-kinds.ps _<_ μ-process t) process.Pre
 
 abbrev gather-Inv-loop : gather-lts.InvT-loop
-gather-Inv-loop places levels amplitudes sub-tracks sounds parts table samples visitor line depth out₀ sends₀ j₀ out sends j =
+gather-Inv-loop places levels amplitudes sub-tracks sounds routes parts table samples visitor line depth out₀ sends₀ j₀ out sends j =
     Inv (chunkFrom places levels amplitudes) (recordings samples visitor) line depth out₀ sends₀ out sends j
 
 abbrev gather-μ-loop : gather-lts.MeasureT-loop
-gather-μ-loop places levels amplitudes sub-tracks sounds parts table samples visitor line depth out₀ sends₀ j₀ out sends j =
+gather-μ-loop places levels amplitudes sub-tracks sounds routes parts table samples visitor line depth out₀ sends₀ j₀ out sends j =
     j
 
 gather-last-line-requires : (t : ℕ) → gather-lts.Need-last-line-requires (
@@ -535,7 +535,9 @@ process-add-routes-requires t c κs =
     let track = c .before .before .before .before .before .before .before .before .before .before .before .before .before .before .track-at .result in
     let gathered = kept L (sumSet d chunk samples line) n silent (made .0) in
     let scaled = kept L (trackPlacedScaled track n) n _ (c .before .before .before .apply-placing-and-volume .ensures) in
-    (ok, (omega (arith, gathered, scaled, ok .short), ap length (made .1) ∙ onSends-length n (withSubSends d chunk samples line) (args .sends .now) ∙ start .pre .1 .1 .1 .1 .1 .1 .1 .0))
+    let long : 2 * n ≤ length (c .before .before .before .apply-placing-and-volume .last .0) = omega (arith, gathered, scaled, ok .short) in
+    let room = ap length (made .1) ∙ onSends-length n (withSubSends d chunk samples line) (args .sends .now) ∙ start .pre .1 .1 .1 .1 .1 .1 .1 .0 in
+    (ok, (start .pre .1 .1 .1 .0 .2, (long, (room, omega (arith, start .pre .1 .1 .1 .1 .1 .0 .1, ok .tracks)))))
 
 process-slice-aggregate-add-frames : (t : ℕ) → process-lts.Need-slice-aggregate-add-frames (
   track-at-reads.Asked,
@@ -635,7 +637,7 @@ process-returns-3 t c =
     let read = c .before .before .before .before .before .before .before .before .before .before .before .before .before .before .before .before .before .before .before .before .before .before .track-at .ensures in
     let moves = ap (λ (t : ChunkTrack). t .advancing) (sym read) ∙ not-false _ (c .before .before .before .before .before .before .before .before .before .before .before .before .before .before .before .before .before .before .before .if2 .left) in
     let made = c .before .before .before .before .before .before .before .before .before .before .before .before .before .before .before .before .gather .ensures in
-    let sum = c .before .before .before .before .before .before .before .before .before .before .before .before .before .before .before .before .gather .last .1 .1 .1 .1 .1 .1 .1 .1 .1 .1 .1 .0 in
+    let sum = c .before .before .before .before .before .before .before .before .before .before .before .before .before .before .before .before .gather .last .1 .1 .1 .1 .1 .1 .1 .1 .1 .1 .1 .1 .0 in
     let scaled = c .before .before .before .before .before .before .before .before .before .before .before .apply-placing-and-volume .ensures ∙ ap (λ (t : ChunkTrack). withFrames L (trackPlacedScaled t n) sum) read in
     let out = c .before .before .before .before .before .before .before .before .before .before .before .apply-placing-and-volume .last .0 in
     let has = track-mixed (args .depth) d chunk samples line deep silent (omega (arith, ok .short)) moves (made .0) scaled in
