@@ -1,0 +1,217 @@
+//! A sheet's lines, one after another, into the tables of a scene.
+
+use std::collections::HashMap;
+use std::path::Path;
+
+use super::names;
+use super::orders;
+use super::values::{Grid, frames, level, whole};
+use super::words::{Word, Words};
+use super::{Fault, Made};
+use crate::input::Names;
+use crate::recordings::Both;
+use crate::scene::tables::{Kind, tables};
+use crate::scene::{Finding, Head, Scene};
+
+/// The words with which a line begins, for messages.
+const LINES: &str = "rate, speakers, buffer, block, length, main, clock, send, house, visitor, listener, \
+                     track, play, to, place, route, at or silent";
+
+const SETTINGS: [&str; 6] = ["rate", "speakers", "buffer", "block", "length", "main"];
+
+pub struct Builder<'a> {
+    pub scene: Scene,
+    pub names: Names,
+    pub notes: Vec<String>,
+    pub folder: &'a Path,
+    pub recordings: Both,
+    /// Lines of the sheet, by table.
+    origins: [Vec<usize>; 9],
+    silent: Vec<(usize, String)>,
+    /// Tracks that the next line may stand below: indent and line.
+    pub open: Vec<(usize, usize)>,
+    length: Option<Words>,
+    orders: Vec<Words>,
+    /// The settings that have been read.
+    settings: Vec<String>,
+}
+
+/// The scene of a sheet; recordings that are given already stand before its own.
+pub fn compile(sheet: &str, folder: &Path, recordings: Both) -> Result<Made, Fault> {
+    let head = Head { rate: 48_000, channels: 2, buffer: 128, block: 512, ..Head::default() };
+    let mut builder = Builder {
+        scene: Scene { head, ..Scene::default() },
+        names: Names::default(),
+        notes: vec![],
+        folder,
+        recordings,
+        origins: Default::default(),
+        silent: vec![],
+        open: vec![],
+        length: None,
+        orders: vec![],
+        settings: vec![],
+    };
+    let lines: Vec<Words> = sheet
+        .trim_start_matches('\u{feff}')
+        .lines()
+        .enumerate()
+        .map(|(at, text)| Words::of(at + 1, text))
+        .collect::<Result<_, _>>()?;
+    builder.find_grid(&lines)?;
+    for words in lines {
+        builder.line(words)?;
+    }
+    builder.finish()
+}
+
+/// The shortest block that holds the show, of whole milliseconds where the rate has such: times land
+/// on blocks, so short ones land near.
+fn finest_block(frames: i64, rate: i64) -> i64 {
+    let step = if rate % 1000 == 0 { rate / 1000 } else { 1 };
+    let most = 512;
+    let least = (frames + 1023) / 1024;
+    let block = (least + step - 1) / step * step;
+    if block <= most { block.max(1) } else { most }
+}
+
+impl Builder<'_> {
+    pub fn grid(&self) -> Grid {
+        Grid { rate: self.scene.head.rate.max(1), block: self.scene.head.block.max(1) }
+    }
+
+    /// Times need the rate, the block and the length, wherever these stand.
+    fn find_grid(&mut self, lines: &[Words]) -> Result<(), Finding> {
+        let line = |name: &str| {
+            let mut found = lines.iter().find(|words| words.peek() == Some(name)).cloned();
+            if let Some(words) = &mut found {
+                words.take(name);
+            }
+            found
+        };
+        if let Some(mut words) = line("rate") {
+            self.scene.head.rate = whole(&mut words, "a whole number")?;
+        }
+        self.length = line("length");
+        if let Some(mut words) = line("block") {
+            self.scene.head.block = whole(&mut words, "a whole number")?;
+        } else if let Some(mut words) = self.length.clone() {
+            self.scene.head.block =
+                finest_block(frames(&mut words, self.grid())?, self.grid().rate);
+        }
+        Ok(())
+    }
+
+    fn line(&mut self, mut words: Words) -> Result<(), Fault> {
+        if words.is_empty() {
+            return Ok(());
+        }
+        while self.open.last().is_some_and(|open| open.0 >= words.indent) {
+            self.open.pop();
+        }
+        let owner = self.open.last().map_or(0, |open| open.1);
+        let first = words.next(LINES)?;
+        let inside = ["track", "play", "to", "place"].contains(&first.text.as_str());
+        if owner > 0 && !inside {
+            let why = format!("stands below the track {}", self.names.track(owner));
+            return Err(words
+                .wrong(&first, &why, "at the margin; track, play, to and place go below")
+                .into());
+        }
+        self.once(&words, &first)?;
+        match first.text.as_str() {
+            "rate" | "block" => words.next("a whole number").map(|_| ())?,
+            "speakers" => self.scene.head.channels = whole(&mut words, "1 to 8")?,
+            "buffer" => self.scene.head.buffer = whole(&mut words, "1 to 256")?,
+            "length" => frames(&mut words, self.grid()).map(|_| ())?,
+            "main" => self.scene.head.volume = level(&mut words)?,
+            "clock" => self.clock(&mut words)?,
+            "send" => self.send(&mut words)?,
+            "house" => self.recording(&mut words, 0)?,
+            "visitor" => self.recording(&mut words, 1)?,
+            "listener" => self.listener(&mut words, &first)?,
+            "track" => self.track(&mut words, owner)?,
+            "to" => self.to(&mut words, &first, owner)?,
+            "route" => self.route(&mut words)?,
+            "place" => self.place(&mut words, &first, owner)?,
+            "play" => self.play(&mut words, owner)?,
+            "silent" => {
+                let name = words.next("the name of a track")?;
+                self.silent.push((words.line, name.text));
+            }
+            "at" => {
+                self.orders.push(words);
+                return Ok(());
+            }
+            _ => return Err(words.wrong(&first, "begins no line of a sheet", LINES).into()),
+        }
+        Ok(words.done("the line's end, or a comment with #")?)
+    }
+
+    /// A setting stands in one line: which of two counts would be a guess.
+    fn once(&mut self, words: &Words, first: &Word) -> Result<(), Finding> {
+        if !SETTINGS.contains(&first.text.as_str()) {
+            return Ok(());
+        }
+        if self.settings.contains(&first.text) {
+            return Err(words.wrong(first, "stands here a second time", "one such line"));
+        }
+        self.settings.push(first.text.clone());
+        Ok(())
+    }
+
+    /// Adds a line to a table's origins.
+    pub fn made(&mut self, kind: Kind, line: usize) {
+        self.origins[kind as usize].push(line);
+    }
+
+    fn finish(mut self) -> Result<Made, Fault> {
+        let Some(mut words) = self.length.take() else {
+            let what = "the sheet has no line `length`";
+            return Err(Finding::whole(what, "one, as `length 10 s`").into());
+        };
+        let long = frames(&mut words, self.grid())?;
+        let block = self.grid().block;
+        self.scene.head.blocks = (long + block - 1) / block;
+        self.made(Kind::Show, words.line);
+        for words in std::mem::take(&mut self.orders) {
+            orders::order(&mut self, words)?;
+        }
+        let lines = self.lines();
+        // An order knows its line of the scene file, as one that is read from there does.
+        let from = lines.keys().max().copied().unwrap_or(0) + 1;
+        let count = self.scene.orders.len();
+        for (at, order) in self.scene.orders.iter_mut().enumerate() {
+            order.line = from + at - count;
+        }
+        for (line, name) in &self.silent {
+            if !self.names.tracks.contains(name) {
+                let known = names::known(name, self.names.tracks.iter(), "track");
+                let what = format!("`{name}` is no track here");
+                return Err(Finding { line: Some(*line), what, allowed: known, span: None }.into());
+            }
+        }
+        Ok(Made {
+            scene: self.scene,
+            recordings: self.recordings,
+            names: self.names,
+            lines,
+            silent: self.silent,
+            notes: self.notes,
+        })
+    }
+
+    /// From lines of the scene file to the sheet's: a names line, the lines, an empty line.
+    fn lines(&self) -> HashMap<usize, usize> {
+        let mut map = HashMap::new();
+        let mut at = 1;
+        for table in tables() {
+            for origin in &self.origins[table.kind as usize] {
+                at += 1;
+                map.insert(at, *origin);
+            }
+            at += 2;
+        }
+        map
+    }
+}
