@@ -12,7 +12,7 @@ _room_desk() {
     --silent) COMPREPLY=(); return ;;
     esac
     case $command in
-    render) options="--output --format --visitor --any-rate" ;;
+    render) options="--output --format --quiet --visitor --any-rate" ;;
     check) options="--quiet --silent --visitor --any-rate" ;;
     show) options="--output --sheet --visitor --any-rate" ;;
     picture) options="--output --visitor --any-rate" ;;

@@ -5,7 +5,7 @@ complete -c room-desk -n "__fish_seen_subcommand_from render show picture new co
 complete -c room-desk -n "__fish_seen_subcommand_from render" -s f -l format -x -a "wav wav16 raw text" -d "form of the output"
 complete -c room-desk -n "__fish_seen_subcommand_from render check show picture compile" -l visitor -r -d "a visitor's recording"
 complete -c room-desk -n "__fish_seen_subcommand_from render check show picture compile" -l any-rate -d "take recordings of another rate"
-complete -c room-desk -n "__fish_seen_subcommand_from check compile" -s q -l quiet -d "say less"
+complete -c room-desk -n "__fish_seen_subcommand_from render check compile" -s q -l quiet -d "say less"
 complete -c room-desk -n "__fish_seen_subcommand_from check" -l silent -x -d "a track that must be proved silent"
 complete -c room-desk -n "__fish_seen_subcommand_from show" -l sheet -d "as a show sheet"
 complete -c room-desk -n "__fish_seen_subcommand_from compile" -s s -l samples -r -d "where the recordings go"

@@ -1,5 +1,6 @@
 //! The command line: options before, between or behind the files, `--name=value`, and `--`.
 
+use crate::guess::meant;
 use crate::stop::{Done, Stop};
 
 /// An option: its names, whether a value follows, and the commands that take it.
@@ -26,7 +27,7 @@ pub const SPECS: [Spec; 11] = [
     spec("--format", "-f", true, &["render"]),
     spec("--visitor", "", true, &["render", "check", "show", "picture", "compile"]),
     spec("--any-rate", "", false, &["render", "check", "show", "picture", "compile"]),
-    spec("--quiet", "-q", false, &["check", "compile"]),
+    spec("--quiet", "-q", false, &["render", "check", "compile"]),
     spec("--silent", "", true, &["check"]),
     spec("--sheet", "", false, &["show"]),
     spec("--samples", "-s", true, &["compile"]),
@@ -34,6 +35,9 @@ pub const SPECS: [Spec; 11] = [
     spec("--color", "", true, &COMMANDS),
     spec("--help", "-h", false, &COMMANDS),
 ];
+
+/// Options of which a second value would silently undo the first.
+const ONCE: [&str; 4] = ["--output", "--format", "--samples", "--visitor-samples"];
 
 /// What was given to a command.
 #[derive(Debug, Default)]
@@ -69,6 +73,12 @@ impl Args {
                 (false, None) => String::new(),
                 (false, Some(_)) => return Err(Stop::Usage(format!("{name} takes no value"))),
             };
+            if let Some(before) = args.value(spec.long).filter(|before| *before != value)
+                && ONCE.contains(&spec.long)
+            {
+                let why = format!("{} is given twice: {before} and {value}", spec.long);
+                return Err(Stop::Usage(why));
+            }
             args.given.push((spec.long, value));
         }
         Ok(args)
@@ -90,7 +100,9 @@ impl Args {
 
 fn find(command: &str, name: &str) -> Done<&'static Spec> {
     let Some(spec) = SPECS.iter().find(|spec| name == spec.long || name == spec.short) else {
-        return Err(Stop::Usage(format!("no option `{name}`")));
+        let taken = SPECS.iter().filter(|spec| spec.commands.contains(&command));
+        let guess = meant(name, taken.map(|spec| spec.long));
+        return Err(Stop::Usage(format!("no option `{name}`{guess}")));
     };
     if spec.commands.contains(&command) {
         return Ok(spec);
@@ -116,7 +128,14 @@ mod tests {
 
     #[test]
     fn wrong_options_are_named() {
-        for words in [&["-o"] as &[_], &["--sheet"], &["--what"], &["--any-rate=1"], &["-x"]] {
+        for words in [
+            &["-o"] as &[_],
+            &["--sheet"],
+            &["--what"],
+            &["--any-rate=1"],
+            &["-x"],
+            &["-o", "a", "-o", "b"],
+        ] {
             assert!(matches!(parse(words), Err(Stop::Usage(_))), "{words:?}");
         }
     }

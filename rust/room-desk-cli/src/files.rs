@@ -1,7 +1,7 @@
 //! Files, whole or not at all.
 
 use std::fs::{self, File};
-use std::io::{self, Read, Write};
+use std::io::{self, IsTerminal, Read, Write};
 use std::path::{Path, PathBuf};
 
 use crate::stop::{Done, Stop};
@@ -25,7 +25,34 @@ pub fn write(path: &str, bytes: &[u8]) -> Done {
         }
         _ => replace(Path::new(path), bytes),
     };
-    result.map_err(|why| Stop::File(format!("{}: {}", shown(path), plain(&why))))
+    result.map_err(|why| match no_folder(path) {
+        Some(folder) => Stop::File(format!("{path}: there is no folder {}", folder.display())),
+        None => Stop::File(format!("{}: {}", shown(path), plain(&why))),
+    })
+}
+
+/// The folder of a file to write, where there is none.
+fn no_folder(path: &str) -> Option<&Path> {
+    Path::new(path).parent().filter(|folder| !folder.as_os_str().is_empty() && !folder.exists())
+}
+
+/// Both name one file that is there.
+pub fn same(one: &str, other: &str) -> bool {
+    let found = |path: &str| fs::canonicalize(path).ok().filter(|_| path != "-");
+    found(one).is_some_and(|path| path.is_file() && Some(path) == found(other))
+}
+
+/// What nobody reads as text is not poured over a terminal.
+pub fn not_to_terminal(output: &str, what: &str, instead: &str) -> Done {
+    if output != "-" || !io::stdout().is_terminal() {
+        return Ok(());
+    }
+    Err(Stop::Usage(format!("{what} is nothing for a terminal: name a file, as `-o {instead}`")))
+}
+
+/// On standard error; nothing can be done where that is closed.
+pub fn tell(text: &str) {
+    let _ = io::stderr().lock().write_all(text.as_bytes());
 }
 
 fn print(bytes: &[u8]) -> io::Result<()> {

@@ -8,9 +8,9 @@ use room_desk::Shape;
 use crate::args::Args;
 use crate::files;
 use crate::paint::Paint;
-use crate::recordings::{Both, quoted};
-use crate::report::{self, Text};
-use crate::scene::{Scene, text};
+use crate::recordings::{Both, Part, quoted};
+use crate::report;
+use crate::scene::{Finding, Scene, text};
 use crate::sheet;
 use crate::stop::{Done, Stop};
 
@@ -54,8 +54,8 @@ pub struct Input {
     pub sheet: Option<(String, HashMap<usize, usize>)>,
     /// Tracks that the sheet says are silent, with its lines.
     pub silent: Vec<(usize, String)>,
-    /// What the sheet's reader has to say: times that landed elsewhere.
-    pub notes: Vec<String>,
+    /// What the sheet's reader has to say, with its lines: times that landed elsewhere.
+    pub notes: Vec<(usize, String)>,
     pub any_rate: bool,
 }
 
@@ -70,6 +70,10 @@ impl Input {
         let named = house.iter().chain(&visitor).chain([first]).filter(|file| *file == "-");
         if named.count() > 1 {
             return Err(Stop::Usage("standard input (-) is named twice".into()));
+        }
+        if let Some(sheet) = house.iter().find(|file| file.ends_with(".show")) {
+            let why = "is a show sheet, not a recording: a command takes one show";
+            return Err(Stop::Usage(format!("{sheet} {why}")));
         }
         let name = found(first, &mut house, &mut visitor)?;
         let mut recordings = Both::default();
@@ -88,9 +92,11 @@ impl Input {
     }
 
     fn of_sheet(name: String, bytes: &[u8], recordings: Both, any_rate: bool) -> Done<Self> {
-        let Ok(sheet) = String::from_utf8(bytes.to_vec()) else {
-            return Err(Stop::Refused(format!("{name}: the sheet is no UTF-8 text\n")));
+        let refused = |sheet: &str, finding: Finding| {
+            report::findings(&name, sheet, &[finding], Paint::default())
         };
+        let sheet = sheet::decoded(bytes)
+            .map_err(|(lossy, finding)| Stop::Refused(refused(&lossy, finding)))?;
         let folder = Path::new(&name).parent().unwrap_or(Path::new(""));
         match sheet::compile(&sheet, folder, recordings) {
             Ok(made) => Ok(Self {
@@ -103,10 +109,12 @@ impl Input {
                 name,
                 any_rate,
             }),
-            Err(sheet::Fault::File(stop)) => Err(stop),
-            Err(sheet::Fault::Line(finding)) => {
-                let text = Text { name: &name, lines: &sheet, sheet: None };
-                Err(Stop::Refused(report::findings(&text, &[*finding], Paint::default())))
+            Err(sheet::Fault::Line(finding)) => Err(Stop::Refused(refused(&sheet, *finding))),
+            Err(sheet::Fault::Missing(finding)) => {
+                Err(Stop::File(refused(&sheet, *finding).trim_end().into()))
+            }
+            Err(sheet::Fault::Recording(line, text)) => {
+                Err(Stop::Refused(format!("{text}    it stands in {name}:{line}\n")))
             }
         }
     }
@@ -122,7 +130,7 @@ impl Input {
         let shape = answer.map_err(|refusal| Trouble::Number(refusal.number()))?;
         match self.recordings.parts().find(|part| part.rate.is_some_and(|r| r != shape.rate)) {
             Some(part) if !self.any_rate => {
-                Err(Trouble::Rate(part.file.clone(), part.rate.unwrap_or(0), shape.rate))
+                Err(Trouble::Rate(part.clone(), part.rate.unwrap_or(0), shape.rate))
             }
             _ => Ok(shape),
         }
@@ -132,6 +140,33 @@ impl Input {
     pub fn accepted(&self, paint: Paint) -> Done<(Shape, Scene)> {
         let shape = self.ask().map_err(|t| Stop::Refused(report::trouble(self, &t, paint)))?;
         Ok((shape, self.scene()?))
+    }
+
+    /// Nothing is written over what it is made of.
+    pub fn spare(&self, output: &str) -> Done {
+        let part = self.recordings.parts().find(|part| files::same(&part.path, output));
+        let what = match part {
+            _ if files::same(&self.name, output) => "the show itself",
+            Some(_) => "a recording of this show",
+            None => return Ok(()),
+        };
+        Err(Stop::Usage(format!("{output} is {what}: name another file to write")))
+    }
+
+    /// `night.show:12`, by a line of the scene file.
+    pub fn place(&self, line: usize) -> String {
+        match self.line(line) {
+            Some(line) => format!("{}:{line}", self.name),
+            None => self.name.clone(),
+        }
+    }
+
+    /// The line to show for one of the scene file: a sheet's own.
+    pub fn line(&self, line: usize) -> Option<usize> {
+        match &self.sheet {
+            Some((_, lines)) => lines.get(&line).copied(),
+            None => Some(line),
+        }
     }
 
     /// The scene as structs, once it is accepted (or refused by 8 or 9 alone).
@@ -163,7 +198,7 @@ pub enum Trouble {
     /// A raw file with bytes that make no whole sample; the render program's 8.
     Rest(String, usize),
     /// A recording of another rate than the show's.
-    Rate(String, u32, u32),
+    Rate(Part, u32, u32),
 }
 
 impl Trouble {

@@ -6,6 +6,7 @@
 pub mod args;
 pub mod commands;
 pub mod files;
+pub mod guess;
 pub mod input;
 pub mod paint;
 pub mod picture;

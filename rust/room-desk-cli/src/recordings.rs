@@ -3,6 +3,7 @@
 use room_desk::{Recordings, Refusal, aiff, wave};
 
 use crate::files;
+use crate::scene::count;
 use crate::stop::{Done, Stop};
 
 /// A file's place among the joined frames.
@@ -17,6 +18,8 @@ pub struct Part {
     pub rate: Option<u32>,
     /// Bytes of a raw file that make no whole sample.
     pub rest: usize,
+    /// The sheet's line that names it first.
+    pub line: Option<usize>,
 }
 
 /// Joined recordings.
@@ -54,7 +57,7 @@ impl Both {
 
 impl Joined {
     /// Reads a file and joins it; `name` is what it is called.
-    pub fn add(&mut self, name: &str, path: &str) -> Done<&Part> {
+    pub fn add(&mut self, name: &str, path: &str) -> Done<&mut Part> {
         let bytes = files::read(path)?;
         let (samples, rate, rest) = match form(path, &bytes) {
             Form::Wave => sound(path, &bytes, wave::read(&bytes))?,
@@ -65,8 +68,9 @@ impl Joined {
         self.samples.extend(samples);
         let frames = self.samples.len() / 2 - first;
         let (file, path) = (name.into(), path.into());
-        self.parts.push(Part { file, path, first, frames, rate, rest });
-        Ok(&self.parts[self.parts.len() - 1])
+        self.parts.push(Part { file, path, first, frames, rate, rest, line: None });
+        let last = self.parts.len() - 1;
+        Ok(&mut self.parts[last])
     }
 
     /// The file that has all frames of a sound.
@@ -123,7 +127,7 @@ pub fn refused(path: &str, bytes: &[u8], refusal: Refusal) -> String {
 
 /// What the file is, and commands that make one that is read.
 fn advice(path: &str, bytes: &[u8], refusal: Refusal) -> Vec<String> {
-    let stem = path.rsplit_once('.').map_or(path, |(stem, _)| stem);
+    let stem = stem(path);
     let (from, to) = (quoted(path), quoted(&format!("{stem}-16.wav")));
     let float = quoted(&format!("{stem}-float.wav"));
     let sixteen = format!("as 16-bit:  sox {from} -b 16 {to}");
@@ -140,7 +144,7 @@ fn advice(path: &str, bytes: &[u8], refusal: Refusal) -> Vec<String> {
         }
         Refusal::SampleKind => match format_chunk(bytes) {
             Some((_, kind, channels, bits)) => {
-                let what = format!("it has {bits} bits of kind {kind}, {channels} channels");
+                let what = format!("it has {}", samples_of(kind, bits, channels));
                 let two = if channels > 2 { " -c 2" } else { "" };
                 vec![what, format!("as 16-bit:  sox {from} -b 16{two} {to}"), exact]
             }
@@ -153,6 +157,16 @@ fn advice(path: &str, bytes: &[u8], refusal: Refusal) -> Vec<String> {
         Refusal::Rate => vec![format!("at another rate:  sox {from} -b 16 -r 48000 {to}")],
         _ => vec![],
     }
+}
+
+/// `24-bit samples in 2 channels`
+fn samples_of(kind: u16, bits: u16, channels: u16) -> String {
+    let samples = match kind {
+        1 => format!("{bits}-bit samples"),
+        3 => format!("{bits}-bit float samples"),
+        _ => format!("{bits}-bit samples of format {kind}"),
+    };
+    format!("{samples} in {}", count(channels.into(), "channel"))
 }
 
 fn what_it_is(bytes: &[u8]) -> String {
@@ -200,6 +214,11 @@ fn format_chunk(bytes: &[u8]) -> Option<(u32, u16, u16, u16)> {
         }
         at += 8 + size as usize + size as usize % 2;
     }
+}
+
+/// A path without its ending.
+pub fn stem(path: &str) -> &str {
+    path.rsplit_once('.').map_or(path, |(stem, _)| stem)
 }
 
 /// A file's name for a shell.

@@ -1,26 +1,17 @@
 //! Refusals and findings as lines for people.
 
-use std::collections::HashMap;
-
 use room_desk::Refusal;
 
 use crate::input::{Input, Trouble};
 use crate::paint::Paint;
-use crate::recordings::quoted;
-use crate::scene::{Finding, explain};
+use crate::recordings::{Part, quoted, stem};
+use crate::scene::{Finding, commas, count, explain};
+use crate::sheet;
 
 /// How many places are shown of one refusal.
 const SHOWN: usize = 8;
 /// Longer lines are not repeated.
 const WIDEST: usize = 160;
-
-/// The text that findings are about.
-pub struct Text<'a> {
-    pub name: &'a str,
-    pub lines: &'a str,
-    /// From a line of the scene to one of the sheet that it was made of.
-    pub sheet: Option<&'a HashMap<usize, usize>>,
-}
 
 /// The number, its sentence, and every place where the explanation agrees with the number.
 pub fn trouble(input: &Input, trouble: &Trouble, paint: Paint) -> String {
@@ -32,19 +23,29 @@ pub fn trouble(input: &Input, trouble: &Trouble, paint: Paint) -> String {
                 "{first}{file}: {rest} bytes behind the last whole sample\n    allowed: a multiple of 4 bytes\n"
             )
         }
-        Trouble::Rate(file, rate, show) => {
-            let percent = (f64::from(*show) / f64::from(*rate).max(1.0) - 1.0).abs() * 100.0;
-            let way = if show > rate { "high" } else { "low" };
-            let from = quoted(file);
-            format!(
-                "{}: {file} has {rate} frames a second, the show {show}: it would sound {percent:.1} % too {way}\n    \
-                 at the show's rate:  sox {from} -r {show} {}\n    \
-                 as it is:            --any-rate\n",
-                paint.bad("refused"),
-                quoted(&format!("{show}-{}", file.rsplit('/').next().unwrap_or(file)))
-            )
-        }
+        Trouble::Rate(part, rate, show) => other_rate(input, part, *rate, *show, paint),
     }
+}
+
+fn other_rate(input: &Input, part: &Part, rate: u32, show: u32, paint: Paint) -> String {
+    let percent = (f64::from(show) / f64::from(rate).max(1.0) - 1.0).abs() * 100.0;
+    let way = if show > rate { "high" } else { "low" };
+    let (file, from) = (&part.file, quoted(&part.path));
+    let stem = stem(&part.path);
+    let mut place = String::new();
+    if let Some(line) = part.line {
+        place += &format!("    it stands in {}:{line}\n", input.name);
+    }
+    if input.recordings.parts().all(|part| part.rate == Some(rate)) {
+        place += "    all recordings have it: a show of that rate takes them\n";
+    }
+    format!(
+        "{}: {file} has {rate} frames a second, the show {show}: it would sound {percent:.1} % too {way}\n    \
+         at the show's rate:  sox {from} -r {show} {}\n    \
+         as it is:            --any-rate\n{place}",
+        paint.bad("refused"),
+        quoted(&format!("{stem}-{show}.wav"))
+    )
 }
 
 fn headline(number: u32, paint: Paint) -> String {
@@ -55,32 +56,75 @@ fn headline(number: u32, paint: Paint) -> String {
 fn refusal(input: &Input, number: u32, paint: Paint) -> String {
     let mut out = headline(number, paint);
     // Only an explanation of the same number explains.
-    if let Some((same, found)) = explain(&input.file, input.recordings.samples())
-        && same == number
-    {
-        let scene = String::from_utf8_lossy(&input.file);
-        let text = match &input.sheet {
-            Some((sheet, lines)) => Text { name: &input.name, lines: sheet, sheet: Some(lines) },
-            None => Text { name: &input.name, lines: &scene, sheet: None },
-        };
-        out += &findings(&text, &found, paint);
+    let explained = explain(&input.file, input.recordings.samples());
+    let Some((_, mut found)) = explained.filter(|explained| explained.0 == number) else {
+        return out;
+    };
+    let loud = if number == 9 { loud_parts(input) } else { vec![] };
+    match (&input.sheet, input.scene()) {
+        (Some((sheet, _)), Ok(scene)) => {
+            let reword = |finding| sheet::reworded(input, &scene, number, finding);
+            found = if loud.is_empty() { found.iter().map(reword).collect() } else { loud };
+            found.dedup();
+            out += &findings(&input.name, sheet, &found, paint);
+        }
+        _ => {
+            let scene = String::from_utf8_lossy(&input.file);
+            found = if loud.is_empty() { found } else { loud };
+            out += &findings(&input.name, &scene, &found, paint);
+            out += like_a_sheet(&scene);
+        }
     }
     out
 }
 
+/// A sheet that was saved under another ending is read as a scene file, and refused as one.
+fn like_a_sheet(scene: &str) -> &'static str {
+    let long = |line: &str| line.trim_start().starts_with("length ");
+    match scene.lines().any(long) {
+        true => "    it reads like a show sheet: the name of one ends with .show\n",
+        false => "",
+    }
+}
+
+/// The recordings that have samples out of range, by the sheet's lines that name them.
+fn loud_parts(input: &Input) -> Vec<Finding> {
+    let both = [&input.recordings.house, &input.recordings.visitor];
+    let parts = both.into_iter().flat_map(|joined| joined.parts.iter().map(move |p| (joined, p)));
+    let said = parts.filter_map(|(joined, part)| {
+        let samples = joined.samples.get(2 * part.first..2 * (part.first + part.frames))?;
+        let wrong = |sample: &f32| !(-1.0..=1.0).contains(sample);
+        let first = samples.iter().position(wrong)?;
+        let many = count(samples.iter().filter(|sample| wrong(sample)).count(), "sample");
+        let what = format!(
+            "{}: {many} out of range, the first in frame {}: {}",
+            part.file,
+            commas(first as i128 / 2),
+            samples[first]
+        );
+        let (stem, from) = (stem(&part.path), quoted(&part.path));
+        let mend = match part.rate {
+            Some(_) => {
+                format!("; sox --norm=-1 {from} -b 16 {}", quoted(&format!("{stem}-16.wav")))
+            }
+            None => String::new(),
+        };
+        let allowed = format!("numbers in -1.0..1.0, frames counted from 0{mend}");
+        Some(Finding { line: part.line, ..Finding::whole(what, allowed) })
+    });
+    said.collect()
+}
+
 /// Each finding with its place, the line, a mark below it, and what is allowed.
-pub fn findings(text: &Text, found: &[Finding], paint: Paint) -> String {
-    let lines: Vec<&str> = text.lines.split('\n').collect();
+pub fn findings(name: &str, text: &str, found: &[Finding], paint: Paint) -> String {
+    let lines: Vec<&str> = text.split('\n').collect();
     let mut out = String::new();
     for finding in found.iter().take(SHOWN) {
-        let (line, span) = match (finding.line, text.sheet) {
-            (Some(line), Some(sheet)) => (sheet.get(&line).copied(), None),
-            (line, _) => (line, finding.span.clone()),
-        };
+        let (line, span) = (finding.line, finding.span.clone());
         let place = match (line, &span) {
-            (Some(line), Some(span)) => format!("{}:{line}:{}", text.name, span.start + 1),
-            (Some(line), None) => format!("{}:{line}", text.name),
-            _ => text.name.to_string(),
+            (Some(line), Some(span)) => format!("{name}:{line}:{}", span.start + 1),
+            (Some(line), None) => format!("{name}:{line}"),
+            _ => name.to_string(),
         };
         out += &format!("{}: {}\n", paint.bold(&place), finding.what);
         let shown = line.and_then(|line| lines.get(line.wrapping_sub(1)));
@@ -107,6 +151,12 @@ fn excerpt(line: &str, span: Option<std::ops::Range<usize>>, paint: Paint) -> St
         out += &format!("    {}{}\n", " ".repeat(before), paint.bad(&"^".repeat(marked)));
     }
     out
+}
+
+/// `note: night.show:12: ...`, a line each.
+pub fn notes(input: &Input) -> String {
+    let said = |(line, text): &(usize, String)| format!("note: {}:{line}: {text}\n", input.name);
+    input.notes.iter().map(said).collect()
 }
 
 /// `warning: ...`, a line each.

@@ -3,21 +3,23 @@
 use crate::input::{Input, Names};
 use crate::scene::model::{Order, PAUSE, Scene};
 use crate::scene::{commas, count};
-use crate::silence::{Answer, NOT_ASKED};
+use crate::silence::Answer;
 use crate::units::{PER, about, curve, decibels, millis, seconds, thousandths};
 use crate::warnings::target;
 
 type Row = Vec<String>;
 
-pub fn text(input: &Input, scene: &Scene, silence: &Answer) -> String {
+/// Without an answer about silence the show was not accepted.
+pub fn text(input: &Input, scene: &Scene, answer: Option<Answer>) -> String {
     let mut out = head(scene);
+    let silence = &answer.clone().unwrap_or_default();
     let view = View { input, scene, names: &input.names, silence };
     section(&mut out, "Clocks", view.clocks());
     section(&mut out, "Tracks", view.tracks());
     section(&mut out, "Send tracks", view.sends());
     section(&mut out, "Orders, by time", view.orders());
-    if *silence == Answer::NotAsked && !scene.tracks.is_empty() {
-        out += &format!("\n{NOT_ASKED}\n");
+    if answer.is_none() {
+        out += "\nThe show is refused, so that silence is not asked: `room-desk check` says why.\n";
     }
     out
 }

@@ -22,10 +22,12 @@ impl Stop {
         }
     }
 
-    pub fn text(&self) -> String {
+    /// For standard error; `command` is the one that was called, if it is known.
+    pub fn text(&self, command: Option<&str>) -> String {
+        let help = command.map_or(String::new(), |command| format!("{command} "));
         match self {
             Self::Refused(text) => text.clone(),
-            Self::Usage(why) => format!("room-desk: {why}\nTry `room-desk --help`.\n"),
+            Self::Usage(why) => format!("room-desk: {why}\nTry `room-desk {help}--help`.\n"),
             Self::File(why) => format!("room-desk: {why}\n"),
         }
     }

@@ -19,7 +19,7 @@ fn statuses() {
         (&["check", "-q", "examples/first/scene.txt"], 1, "8\n"),
         (&["render", "examples/first/scene.txt", "-o", "/nowhere/x.wav"], 1, "refused 8"),
         (&["show", FIRST], 0, "2 channels"),
-        (&["show", "examples/first/scene.txt"], 0, "2 channels"),
+        (&["show", "examples/first/scene.txt"], 0, "so that silence is not asked"),
         (&["new"], 0, "# A show sheet"),
         (&[], 2, "no command is named"),
         (&["play"], 2, "no command `play`"),
@@ -47,15 +47,11 @@ fn statuses() {
     }
 }
 
-/// A track that is at -60 dB, one that is held, one inside, one that leaks; or nothing is promised.
+/// A track that is at -60 dB, one that is held, one inside, one that leaks.
 #[test]
 fn silence_is_the_routines() {
     let output = run(&["check", "examples/night"]);
     let said = text(&output.stdout);
-    if !common::asks_silence() {
-        assert!(status(&output) == 1 && said.contains("silence is not asked"), "{said}");
-        return;
-    }
     assert!(status(&output) == 0 && said.contains("silent: donor, muted"), "{said}");
     assert!(said.contains("silent: spare, held"), "{said}");
     let output = run(&["check", "examples/night", "--silent", "donor-low", "--silent", "bells"]);

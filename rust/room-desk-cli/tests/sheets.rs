@@ -101,9 +101,19 @@ fn a_sound_that_begins_later_has_a_track_of_its_own() {
 #[test]
 fn times_land_on_blocks_and_say_so() {
     let made = compile("rate 8000\nblock 512\nlength 2 s\nat 1 s set main to -6 dB\n").unwrap();
-    assert_eq!(made.notes, ["line 4: 1.000 s lands at 1.024 s, the start of block 16"]);
+    let note = "1.000 s lands at 1.024 s, the start of block 16";
+    assert_eq!(made.notes, [(4, note.to_string())]);
     let made = compile("rate 8000\nlength 2 s\nat 1 s set main to -6 dB\n").unwrap();
     assert!(made.notes.is_empty());
+    // Tenths of seconds land where they are written, at every rate and length that allow it.
+    for (rate, long, block) in
+        [(48_000, 6, 300), (44_100, 9, 441), (16_000, 12, 200), (8000, 60, 500)]
+    {
+        let sheet = format!("rate {rate}\nlength {long} s\nat 1.1 s set main to -6 dB\n");
+        let made = compile(&sheet).unwrap();
+        assert_eq!(made.scene.head.block, block, "{sheet}");
+        assert_eq!(made.notes.is_empty(), rate * 11 / 10 % block == 0, "{sheet}");
+    }
 }
 
 #[test]
@@ -162,7 +172,9 @@ fn a_refused_sheet_names_its_own_line() {
     assert_eq!(status(&output), 1);
     let said = text(&output.stdout);
     assert!(
-        said.contains("loud.show:5: tracks, line 1: volume is 30000\n    track x 30 dB\n"),
+        said.contains(
+            "loud.show:5: x is at 30 dB\n    track x 30 dB\n    allowed: -96 dB to 18 dB"
+        ),
         "{said}"
     );
 }

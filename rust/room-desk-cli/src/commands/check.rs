@@ -10,7 +10,7 @@ use crate::input::Input;
 use crate::paint::Paint;
 use crate::report;
 use crate::scene::{Scene, commas, count};
-use crate::silence::{self, Answer, NOT_ASKED};
+use crate::silence::{self, Answer};
 use crate::stop::{Done, Stop};
 use crate::units::seconds;
 use crate::warnings;
@@ -33,55 +33,61 @@ pub fn run(args: &Args) -> Done {
 
 fn accepted(args: &Args, input: &Input, shape: &Shape, paint: Paint) -> Done {
     let scene = input.scene()?;
-    let asked: Vec<String> = args
-        .values("--silent")
-        .map(String::from)
-        .chain(input.silent.iter().map(|s| s.1.clone()))
-        .collect();
-    let (said, silent) = silence(input, &scene, &asked, paint)?;
+    let answer = silence::ask(input);
+    let refusal = silence::refusal(input, &scene, &answer, paint)?;
+    let (said, silent) = silence(args, input, &scene, &answer, paint)?;
     let mut text = String::new();
     if args.has("--quiet") {
         text += "0\n";
     } else {
-        text += &format!(
-            "{}: {} frames, {} at {} Hz, {}\n",
-            paint.good("accepted"),
-            commas(shape.frames() as i128),
-            seconds(shape.seconds()),
-            shape.rate,
-            count(shape.channels, "channel"),
-        );
+        text += &match refusal.as_str() {
+            "" => format!("{}: {}\n", paint.good("accepted"), summary(shape)),
+            refusal => refusal.into(),
+        };
         text += &report::warnings(&warnings::of(input, &scene), paint);
-        for note in &input.notes {
-            text += &format!("{}: {note}\n", input.name);
-        }
+        text += &report::notes(input);
         text += &said;
     }
     files::write("-", text.as_bytes())?;
-    if silent { Ok(()) } else { Err(Stop::Refused(String::new())) }
+    if silent && refusal.is_empty() { Ok(()) } else { Err(Stop::Refused(String::new())) }
 }
 
-/// A line for each track that was asked about, and whether all are proved silent.
-fn silence(input: &Input, scene: &Scene, asked: &[String], paint: Paint) -> Done<(String, bool)> {
-    if asked.is_empty() {
-        return Ok((String::new(), true));
-    }
-    let answer = silence::ask(input);
-    if answer == Answer::NotAsked {
-        return Ok((format!("{}\n", paint.warn(NOT_ASKED)), false));
-    }
+fn summary(shape: &Shape) -> String {
+    format!(
+        "{} frames, {} at {} Hz, {}",
+        commas(shape.frames() as i128),
+        seconds(shape.seconds()),
+        shape.rate,
+        count(shape.channels, "channel"),
+    )
+}
+
+/// A line for each track that must be silent, and whether those of `--silent` are proved so. The
+/// sheet's own that are not have been refused.
+fn silence(
+    args: &Args,
+    input: &Input,
+    scene: &Scene,
+    answer: &Answer,
+    paint: Paint,
+) -> Done<(String, bool)> {
+    let own: Vec<&str> = input.silent.iter().map(|(_, name)| name.as_str()).collect();
+    let asked = args.values("--silent").filter(|name| !own.contains(name));
+    let mut all = own.clone();
+    all.extend(asked);
     let mut text = String::new();
-    let mut all = true;
-    for name in asked {
+    let mut proved = true;
+    for (at, name) in all.iter().enumerate().filter(|(at, name)| !all[..*at].contains(name)) {
         let track = silence::track_named(name, scene, &input.names)?;
-        match answer.reason(track, scene, &input.names) {
-            Some(reason) => text += &format!("{}: {name}, {reason}\n", paint.good("silent")),
-            None => {
-                all = false;
-                let why = silence::why_not(track, scene, &input.names);
-                text += &format!("{}: {name}{why}\n", paint.bad("not proved silent"));
-            }
+        if let Some(reason) = answer.reason(track, scene, &input.names) {
+            text += &format!("{}: {name}, {reason}\n", paint.good("silent"));
+        } else if at >= own.len() {
+            proved = false;
+            let why = silence::why_not(track, input, scene);
+            let mend = silence::mend(name);
+            let first = paint.bad("not proved silent");
+            text += &format!("{first}: {name}{why}\n    allowed: {mend}\n");
         }
     }
-    Ok((text, all))
+    Ok((text, proved))
 }

@@ -23,17 +23,24 @@ pub fn run(args: &Args) -> Done {
             input.name
         )));
     }
+    if let Some(output) = args.value("--output").filter(|output| output.ends_with(".show")) {
+        return Err(Stop::Usage(format!("{output}: a scene file is no sheet: name it .txt")));
+    }
     let scene = input.scene();
     match input.ask() {
-        Ok(_) => silence::demand(&input, &input.scene()?)?,
+        Ok(_) => silence::demand(&input, &input.scene()?, paint)?,
         Err(Trouble::Number(8)) if input.recordings.parts().next().is_none() => {
             eprintln!("{}: no recordings are named, so sounds are not checked", input.name);
         }
         Err(trouble) => return Err(Stop::Refused(report::trouble(&input, &trouble, paint))),
     }
     if !args.has("--quiet") {
-        super::notes(&input);
-        eprint!("{}", report::warnings(&warnings::of(&input, &scene?), paint));
+        let warnings = report::warnings(&warnings::of(&input, &scene?), paint);
+        files::tell(&(report::notes(&input) + &warnings));
+    }
+    let outputs = ["--samples", "--visitor-samples", "--output"];
+    for output in outputs.into_iter().filter_map(|option| args.value(option)) {
+        input.spare(output)?;
     }
     recording(args.value("--samples"), &input, &input.recordings.house)?;
     recording(args.value("--visitor-samples"), &input, &input.recordings.visitor)?;

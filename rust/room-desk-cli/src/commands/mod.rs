@@ -7,8 +7,12 @@ mod draw;
 mod render;
 mod tables;
 
+use std::ffi::OsStr;
+use std::path::Path;
+
 use crate::args::{Args, COMMANDS};
 use crate::files;
+use crate::guess::meant;
 use crate::sheet;
 use crate::stop::{Done, Stop};
 
@@ -25,7 +29,9 @@ pub fn run(mut words: Vec<String>) -> Done {
         "-h" | "--help" => return help(None),
         "-V" | "--version" => return version(),
         _ if !COMMANDS.contains(&command.as_str()) => {
-            return Err(Stop::Usage(format!("no command `{command}`: {}", COMMANDS.join(", "))));
+            let guess = meant(&command, COMMANDS.into_iter());
+            let all = COMMANDS.join(", ");
+            return Err(Stop::Usage(format!("no command `{command}`: {all}{guess}")));
         }
         _ => {}
     }
@@ -67,12 +73,13 @@ fn new(args: &Args) -> Done {
     if let Some(file) = args.files.first() {
         return Err(Stop::Usage(format!("new takes no file: `{file}`; use -o to name one")));
     }
-    files::write(args.value("--output").unwrap_or("-"), sheet::TEMPLATE.as_bytes())
-}
-
-/// The sheet's notes, for standard error.
-fn notes(input: &crate::input::Input) {
-    for note in &input.notes {
-        eprintln!("{}: {note}", input.name);
+    let output = args.value("--output").unwrap_or("-");
+    let path = Path::new(output);
+    if path.is_file() {
+        return Err(Stop::File(format!("{output} is there already: new writes over nothing")));
     }
+    if output != "-" && !path.exists() && path.extension() != Some(OsStr::new("show")) {
+        return Err(Stop::Usage(format!("{output}: the name of a sheet ends with .show")));
+    }
+    files::write(output, sheet::TEMPLATE.as_bytes())
 }

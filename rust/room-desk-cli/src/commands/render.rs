@@ -1,6 +1,7 @@
 //! `render`: the whole show, or the refusal.
 
 use std::io;
+use std::mem::discriminant;
 use std::path::Path;
 
 use room_desk::wave::{self, Bits};
@@ -10,8 +11,13 @@ use crate::args::Args;
 use crate::files;
 use crate::input::Input;
 use crate::paint::Paint;
+use crate::picture::{loudness, peak};
+use crate::report;
+use crate::scene::count;
 use crate::silence;
 use crate::stop::{Done, Stop};
+use crate::units::seconds;
+use crate::warnings;
 
 #[derive(Debug, Clone, Copy, PartialEq, Eq)]
 enum Format {
@@ -25,8 +31,11 @@ pub fn run(args: &Args) -> Done {
     let format = format(args.value("--format"), output)?;
     let paint = Paint::of(args, io::stderr())?;
     let input = Input::load(args)?;
+    if format != Format::Text {
+        files::not_to_terminal(output, "sound", "out.wav")?;
+    }
     let (shape, scene) = input.accepted(paint)?;
-    silence::demand(&input, &scene)?;
+    silence::demand(&input, &scene, paint)?;
     if output == "-" && shape.channels > 2 && matches!(format, Format::Wave(_)) {
         let why = format!(
             "{} channels make as many WAVE files: name one with -o, or use -f raw",
@@ -36,26 +45,75 @@ pub fn run(args: &Args) -> Done {
     }
     let show = room_desk::render(&input.file, input.recordings.samples())
         .map_err(|refusal| Stop::Refused(format!("refused {}: {refusal}\n", refusal.number())))?;
-    match format {
-        Format::Raw => files::write(output, &raw(&show)),
-        Format::Text => files::write(output, listing(&show).as_bytes()),
-        Format::Wave(bits) => waves(output, &show, bits),
+    let made = match format {
+        Format::Raw => vec![(output.to_string(), raw(&show))],
+        Format::Text => vec![(output.to_string(), listing(&show).into_bytes())],
+        Format::Wave(bits) => waves(output, &show, bits)?,
+    };
+    made.iter().try_for_each(|(name, _)| input.spare(name))?;
+    made.iter().try_for_each(|(name, bytes)| files::write(name, bytes))?;
+    if !args.has("--quiet") {
+        let mut list = warnings::of(&input, &scene);
+        list.extend(at_full_scale(&show));
+        files::tell(&(report::warnings(&list, paint) + &written(&made, &show)));
+    }
+    Ok(())
+}
+
+/// By its name, else by the ending of the output; the two must agree.
+fn format(name: Option<&str>, output: &str) -> Done<Format> {
+    let ending = Path::new(output).extension().and_then(|ending| ending.to_str());
+    let by_ending = match ending.map(str::to_ascii_lowercase).as_deref() {
+        Some("wav" | "wave") => Some(Format::Wave(Bits::Float)),
+        Some("raw" | "f32") => Some(Format::Raw),
+        Some("txt" | "text") => Some(Format::Text),
+        _ => None,
+    };
+    let format = match (name, ending) {
+        (Some("wav"), _) => Format::Wave(Bits::Float),
+        (Some("wav16"), _) => Format::Wave(Bits::Sixteen),
+        (Some("raw" | "f32"), _) => Format::Raw,
+        (Some("text" | "txt"), _) => Format::Text,
+        (Some(other), _) => {
+            return Err(Stop::Usage(format!("no format `{other}`: wav, wav16, raw or text")));
+        }
+        (None, None) => Format::Wave(Bits::Float),
+        (None, Some(ending)) => by_ending.ok_or_else(|| {
+            let why = "is not written; .wav, .raw and .txt are, and any name with -f";
+            Stop::Usage(format!("{output}: .{ending} {why}"))
+        })?,
+    };
+    match (name, by_ending) {
+        (Some(name), Some(other)) if discriminant(&format) != discriminant(&other) => {
+            Err(Stop::Usage(format!("-f {name} does not fit the name {output}")))
+        }
+        _ => Ok(format),
     }
 }
 
-/// By its name, else by the ending of the output.
-fn format(name: Option<&str>, output: &str) -> Done<Format> {
-    let ending = Path::new(output).extension().and_then(|ending| ending.to_str());
-    match name.or(ending) {
-        Some("wav16") => Ok(Format::Wave(Bits::Sixteen)),
-        Some("raw" | "f32") => Ok(Format::Raw),
-        Some("text" | "txt") => Ok(Format::Text),
-        Some("wav") | None => Ok(Format::Wave(Bits::Float)),
-        Some(other) if name.is_some() => {
-            Err(Stop::Usage(format!("no format `{other}`: wav, wav16, raw or text")))
-        }
-        Some(_) => Ok(Format::Wave(Bits::Float)),
-    }
+/// What is louder is cut there.
+fn at_full_scale(show: &Show) -> Option<String> {
+    let full = show.samples.iter().filter(|sample| sample.abs() >= 1.0).count();
+    let what = format!("{} at full scale, where louder ones are cut", count(full, "sample"));
+    (full > 0).then_some(what)
+}
+
+/// `out.wav: 10.000 s at 8000 Hz, 2 channels, peak -6.8 dB`; nothing of standard output.
+fn written(made: &[(String, Vec<u8>)], show: &Show) -> String {
+    let names: Vec<&str> = made.iter().map(|(name, _)| name.as_str()).collect();
+    let names = match names[..] {
+        [] | ["-"] => return String::new(),
+        [first, .., last] => format!("{first} to {last}"),
+        [only] => only.into(),
+    };
+    let shape = &show.shape;
+    format!(
+        "{names}: {} at {} Hz, {}, {}\n",
+        seconds(shape.seconds()),
+        shape.rate,
+        count(shape.channels, "channel"),
+        loudness(peak(&show.samples)),
+    )
 }
 
 pub fn raw(show: &Show) -> Vec<u8> {
@@ -73,12 +131,10 @@ fn listing(show: &Show) -> String {
 }
 
 /// One file up to two channels, else one mono file a channel.
-fn waves(output: &str, show: &Show, bits: Bits) -> Done {
+fn waves(output: &str, show: &Show, bits: Bits) -> Done<Vec<(String, Vec<u8>)>> {
     if show.shape.channels <= 2 {
-        return files::write(
-            output,
-            &wave_of(&show.shape, &pairs(show), show.shape.channels, bits)?,
-        );
+        let bytes = wave_of(&show.shape, &pairs(show), show.shape.channels, bits)?;
+        return Ok(vec![(output.into(), bytes)]);
     }
     let (stem, ending) = match output.rsplit_once('.') {
         Some((stem, ending)) if !ending.contains('/') => (stem, format!(".{ending}")),
@@ -87,12 +143,10 @@ fn waves(output: &str, show: &Show, bits: Bits) -> Done {
     let mut made = vec![];
     for channel in 0..show.shape.channels {
         let samples: Vec<f32> = show.channel(channel).flat_map(|sample| [sample; 2]).collect();
-        made.push(wave_of(&show.shape, &samples, 1, bits)?);
+        let bytes = wave_of(&show.shape, &samples, 1, bits)?;
+        made.push((format!("{stem}-{}{ending}", channel + 1), bytes));
     }
-    for (channel, bytes) in made.iter().enumerate() {
-        files::write(&format!("{stem}-{}{ending}", channel + 1), bytes)?;
-    }
-    Ok(())
+    Ok(made)
 }
 
 /// Two samples a frame, as the writer takes them; of one channel both are the same.

@@ -9,7 +9,7 @@ use crate::paint::Paint;
 use crate::report;
 use crate::sheet;
 use crate::show;
-use crate::silence::{self, Answer};
+use crate::silence;
 use crate::stop::{Done, Stop};
 
 pub fn run(args: &Args) -> Done {
@@ -23,10 +23,12 @@ pub fn run(args: &Args) -> Done {
         return Err(Stop::Refused(report::trouble(&input, trouble, paint)));
     }
     let scene = input.scene()?;
-    let silence = if asked.is_ok() { silence::ask(&input) } else { Answer::NotAsked };
+    let silence = asked.is_ok().then(|| silence::ask(&input));
     let text = match args.has("--sheet") {
         true => sheet::write(&input, &scene),
-        false => show::text(&input, &scene, &silence),
+        false => show::text(&input, &scene, silence),
     };
-    files::write(args.value("--output").unwrap_or("-"), text.as_bytes())
+    let output = args.value("--output").unwrap_or("-");
+    input.spare(output)?;
+    files::write(output, text.as_bytes())
 }

@@ -2,7 +2,6 @@
 
 use super::canvas::{Canvas, wide};
 use super::{LEFT, MARGIN, Picture, RIGHT, WIDE};
-use crate::silence::{Answer, NOT_ASKED};
 
 pub const PATTERNS: &str = "\
 <pattern id='hatch' width='6' height='6' patternUnits='userSpaceOnUse' patternTransform='rotate(45)'>\
@@ -31,7 +30,7 @@ impl Picture<'_> {
         } else {
             format!(" (drawn {scale:.1} times as high)")
         };
-        let mut items = vec![
+        let items = [
             (WAVE, format!("what its own sounds add to the output{drawn}")),
             (LEVEL, "its level: volume and fades".into()),
             (VOLUME, "a volume's change".into()),
@@ -40,10 +39,8 @@ impl Picture<'_> {
             (RESUME, "resume".into()),
             (STILL, "stands still".into()),
             (UNHEARD, "runs unheard".into()),
+            (PROVED, "proved silent".into()),
         ];
-        if *self.silence != Answer::NotAsked {
-            items.push((PROVED, "proved silent".into()));
-        }
         let (mut x, mut y) = (MARGIN, y);
         for (mark, label) in items {
             let width = 26.0 + wide(&label, 10.5) + 18.0;
@@ -60,13 +57,8 @@ impl Picture<'_> {
     fn foot(&self, canvas: &mut Canvas, y: f64) -> f64 {
         let renders = self.probes.renders;
         let said = format!("Every curve is measured on {renders} renders by the proved routine. ");
-        let silence = match self.silence {
-            Answer::NotAsked => format!("Of {}.", NOT_ASKED.replacen("silence is", "silence nothing is drawn: it is", 1)),
-            Answer::Tracks(_) => {
-                "Green lanes are tracks that the proved routine calls silent: no change inside them is heard.".into()
-            }
-        };
-        canvas.text(MARGIN, y, "foot", &(said + &silence));
+        let silence = "Green lanes are tracks that the proved routine calls silent: no change inside them is heard.";
+        canvas.text(MARGIN, y, "foot", &(said + silence));
         y + 20.0
     }
 }

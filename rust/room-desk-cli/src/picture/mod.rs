@@ -19,8 +19,10 @@ use crate::silence::Answer;
 use crate::stop::{Done, Stop};
 use crate::units::{about, seconds};
 use canvas::{Canvas, escape, minus};
-use columns::{decibels_of, peak};
+use columns::decibels_of;
 use probes::Probes;
+
+pub use columns::peak;
 
 /// Where lanes begin, how wide they are, and what is left for scales.
 const LEFT: f64 = 236.0;
@@ -140,6 +142,6 @@ impl Picture<'_> {
 }
 
 /// `peak -6.1 dB`, or `all zero`: only a proof says silent.
-fn loudness(peak: f64) -> String {
+pub fn loudness(peak: f64) -> String {
     if peak == 0.0 { "all zero".into() } else { format!("peak {:.1} dB", decibels_of(peak)) }
 }

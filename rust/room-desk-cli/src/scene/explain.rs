@@ -63,6 +63,7 @@ fn line_counts(rows: &Rows) -> Vec<Finding> {
             line: first_too_many,
             what: format!("{}: {} lines", table.title, lines.len()),
             allowed: if least == most { format!("{least}") } else { format!("{least}..{most}") },
+            field: Some((table.kind, lines.len(), 0)),
             ..Finding::default()
         });
     }

@@ -2,6 +2,8 @@
 
 use std::ops::Range;
 
+use super::tables::Kind;
+
 /// What was found, and what is allowed instead.
 #[derive(Debug, Clone, Default, PartialEq)]
 pub struct Finding {
@@ -11,6 +13,8 @@ pub struct Finding {
     pub span: Option<Range<usize>>,
     pub what: String,
     pub allowed: String,
+    /// The table, its line from 0 (of a count the count), and the column.
+    pub field: Option<(Kind, usize, usize)>,
 }
 
 impl Finding {
@@ -26,7 +30,17 @@ impl Finding {
         what: impl Into<String>,
         allowed: impl Into<String>,
     ) -> Self {
-        Self { line: Some(line), span: Some(span), what: what.into(), allowed: allowed.into() }
+        Self { line: Some(line), span: Some(span), ..Self::whole(what, allowed) }
+    }
+
+    /// About a line, without a word to point at.
+    pub fn of_line(line: usize, what: impl Into<String>, allowed: impl Into<String>) -> Self {
+        Self { line: Some(line), ..Self::whole(what, allowed) }
+    }
+
+    /// With the field that it is about.
+    pub fn of_field(self, kind: Kind, at: usize, column: usize) -> Self {
+        Self { field: Some((kind, at, column)), ..self }
     }
 }
 

@@ -1,6 +1,6 @@
 //! A scene as structs, for everything but the explanation. Lines of tables count from 1.
 
-use super::tables::{Kind, Table};
+use super::tables::{Kind, Table, tables};
 use super::text::{self, Row, Rows};
 
 /// The first table.
@@ -153,7 +153,8 @@ impl Scene {
         text::write(|kind| self.numbers(kind))
     }
 
-    fn numbers(&self, kind: Kind) -> Vec<Vec<i64>> {
+    /// The numbers of a table's lines.
+    pub fn numbers(&self, kind: Kind) -> Vec<Vec<i64>> {
         let line = |line: usize| line as i64;
         match kind {
             Kind::Show => {
@@ -180,6 +181,12 @@ impl Scene {
             }
             Kind::Orders => self.orders.iter().map(order_numbers).collect(),
         }
+    }
+
+    /// The scene file's line of a table's line, which counts from 0 here.
+    pub fn line_of(&self, kind: Kind, at: usize) -> usize {
+        let before = tables().take_while(|table| table.kind != kind);
+        before.map(|table| self.numbers(table.kind).len() + 2).sum::<usize>() + at + 2
     }
 
     pub fn rate(&self) -> f64 {

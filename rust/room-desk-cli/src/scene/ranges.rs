@@ -47,7 +47,11 @@ impl Line<'_> {
             self.table.fields[column].name,
             self.row.numbers[column],
         );
-        Finding::at(self.row.line, self.row.spans[column].clone(), what, allowed)
+        Finding::at(self.row.line, self.row.spans[column].clone(), what, allowed).of_field(
+            self.table.kind,
+            self.at,
+            column,
+        )
     }
 
     pub fn named(&self, name: &str, note: &str, allowed: impl Into<String>) -> Finding {

@@ -119,7 +119,8 @@ fn twice(rows: &Rows, kind: Kind, columns: usize, allowed: &str) -> Vec<Finding>
                 at + 1
             );
             let span = 0..line.row.spans[columns - 1].end;
-            findings.push(Finding::at(line.row.line, span, what, allowed));
+            let finding = Finding::at(line.row.line, span, what, allowed);
+            findings.push(finding.of_field(kind, line.at, 0));
         }
     }
     findings

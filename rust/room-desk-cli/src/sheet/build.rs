@@ -8,21 +8,26 @@ use super::orders;
 use super::values::{Grid, frames, level, whole};
 use super::words::{Word, Words};
 use super::{Fault, Made};
+use crate::guess::meant;
 use crate::input::Names;
 use crate::recordings::Both;
 use crate::scene::tables::{Kind, tables};
 use crate::scene::{Finding, Head, Scene};
 
-/// The words with which a line begins, for messages.
-const LINES: &str = "rate, speakers, buffer, block, length, main, clock, send, house, visitor, listener, \
-                     track, play, to, place, route, at or silent";
+/// The words with which a line begins.
+const LINES: [&str; 18] = [
+    "rate", "speakers", "buffer", "block", "length", "main", "clock", "send", "house", "visitor",
+    "listener", "track", "play", "to", "place", "route", "at", "silent",
+];
+
+const RATE: &str = "frames a second, a whole number, as `rate 48000`";
 
 const SETTINGS: [&str; 6] = ["rate", "speakers", "buffer", "block", "length", "main"];
 
 pub struct Builder<'a> {
     pub scene: Scene,
     pub names: Names,
-    pub notes: Vec<String>,
+    pub notes: Vec<(usize, String)>,
     pub folder: &'a Path,
     pub recordings: Both,
     /// Lines of the sheet, by table.
@@ -30,6 +35,10 @@ pub struct Builder<'a> {
     silent: Vec<(usize, String)>,
     /// Tracks that the next line may stand below: indent and line.
     pub open: Vec<(usize, usize)>,
+    /// The line at the margin that ended the last of them.
+    pub ended: Option<usize>,
+    /// The least indent of the sheet.
+    pub margin: usize,
     length: Option<Words>,
     orders: Vec<Words>,
     /// The settings that have been read.
@@ -48,16 +57,23 @@ pub fn compile(sheet: &str, folder: &Path, recordings: Both) -> Result<Made, Fau
         origins: Default::default(),
         silent: vec![],
         open: vec![],
+        ended: None,
+        margin: 0,
         length: None,
         orders: vec![],
         settings: vec![],
     };
     let lines: Vec<Words> = sheet
-        .trim_start_matches('\u{feff}')
         .lines()
         .enumerate()
         .map(|(at, text)| Words::of(at + 1, text))
         .collect::<Result<_, _>>()?;
+    if lines.iter().all(Words::is_empty) {
+        let allowed = "lines as `room-desk new` prints them";
+        return Err(Finding::whole("the sheet says nothing", allowed).into());
+    }
+    let indents = lines.iter().filter(|words| !words.is_empty()).map(|words| words.indent);
+    builder.margin = indents.min().unwrap_or(0);
     builder.find_grid(&lines)?;
     for words in lines {
         builder.line(words)?;
@@ -65,14 +81,13 @@ pub fn compile(sheet: &str, folder: &Path, recordings: Both) -> Result<Made, Fau
     builder.finish()
 }
 
-/// The shortest block that holds the show, of whole milliseconds where the rate has such: times land
-/// on blocks, so short ones land near.
+/// The shortest block that holds the show, so that times land near, and of which a tenth of a second
+/// or else a second has a whole number: such times land where they were written.
 fn finest_block(frames: i64, rate: i64) -> i64 {
-    let step = if rate % 1000 == 0 { rate / 1000 } else { 1 };
     let most = 512;
-    let least = (frames + 1023) / 1024;
-    let block = (least + step - 1) / step * step;
-    if block <= most { block.max(1) } else { most }
+    let least = ((frames + 1023) / 1024).clamp(1, most);
+    let divides = |part: i64| (least..=most).find(|block| rate % (part * block) == 0);
+    divides(10).or_else(|| divides(1)).unwrap_or(least)
 }
 
 impl Builder<'_> {
@@ -90,7 +105,7 @@ impl Builder<'_> {
             found
         };
         if let Some(mut words) = line("rate") {
-            self.scene.head.rate = whole(&mut words, "a whole number")?;
+            self.scene.head.rate = whole(&mut words, RATE)?;
         }
         self.length = line("length");
         if let Some(mut words) = line("block") {
@@ -106,11 +121,17 @@ impl Builder<'_> {
         if words.is_empty() {
             return Ok(());
         }
-        while self.open.last().is_some_and(|open| open.0 >= words.indent) {
-            self.open.pop();
+        while self.open.pop_if(|open| open.0 >= words.indent).is_some() {
+            self.ended = self.open.is_empty().then_some(words.line);
         }
         let owner = self.open.last().map_or(0, |open| open.1);
-        let first = words.next(LINES)?;
+        let first = words.next("a word that begins a line")?;
+        if !LINES.contains(&first.text.as_str()) {
+            let timed = first.text.starts_with(|c: char| c.is_ascii_digit());
+            let guess = meant(if timed { "at" } else { &first.text }, LINES.into_iter());
+            let allowed = format!("{}{guess}", LINES.join(", "));
+            return Err(words.wrong(&first, "begins no line of a sheet", allowed).into());
+        }
         let inside = ["track", "play", "to", "place"].contains(&first.text.as_str());
         if owner > 0 && !inside {
             let why = format!("stands below the track {}", self.names.track(owner));
@@ -130,7 +151,7 @@ impl Builder<'_> {
             "house" => self.recording(&mut words, 0)?,
             "visitor" => self.recording(&mut words, 1)?,
             "listener" => self.listener(&mut words, &first)?,
-            "track" => self.track(&mut words, owner)?,
+            "track" => self.track(&mut words, &first, owner)?,
             "to" => self.to(&mut words, &first, owner)?,
             "route" => self.route(&mut words)?,
             "place" => self.place(&mut words, &first, owner)?,
@@ -139,13 +160,13 @@ impl Builder<'_> {
                 let name = words.next("the name of a track")?;
                 self.silent.push((words.line, name.text));
             }
-            "at" => {
+            _ => {
                 self.orders.push(words);
                 return Ok(());
             }
-            _ => return Err(words.wrong(&first, "begins no line of a sheet", LINES).into()),
         }
-        Ok(words.done("the line's end, or a comment with #")?)
+        let end = if first.text == "rate" { RATE } else { "the line's end, or a comment with #" };
+        Ok(words.done(end)?)
     }
 
     /// A setting stands in one line: which of two counts would be a guess.
@@ -188,7 +209,7 @@ impl Builder<'_> {
             if !self.names.tracks.contains(name) {
                 let known = names::known(name, self.names.tracks.iter(), "track");
                 let what = format!("`{name}` is no track here");
-                return Err(Finding { line: Some(*line), what, allowed: known, span: None }.into());
+                return Err(Finding::of_line(*line, what, known).into());
             }
         }
         Ok(Made {

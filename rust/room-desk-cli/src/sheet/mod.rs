@@ -5,12 +5,14 @@ mod build;
 mod names;
 mod orders;
 mod play;
+mod reword;
 mod tracks;
 mod values;
 mod words;
 mod write;
 
 pub use build::compile;
+pub use reword::reworded;
 pub use write::write;
 
 use std::collections::HashMap;
@@ -18,7 +20,6 @@ use std::collections::HashMap;
 use crate::input::Names;
 use crate::recordings::Both;
 use crate::scene::{Finding, Scene};
-use crate::stop::Stop;
 
 /// A sheet to start from.
 pub const TEMPLATE: &str = include_str!("template.show");
@@ -33,8 +34,8 @@ pub struct Made {
     pub lines: HashMap<usize, usize>,
     /// Tracks that the sheet says are silent: its line, the name.
     pub silent: Vec<(usize, String)>,
-    /// Times that landed elsewhere, one line each.
-    pub notes: Vec<String>,
+    /// Times that landed elsewhere: the sheet's line, what is said.
+    pub notes: Vec<(usize, String)>,
 }
 
 /// Why there is no scene.
@@ -42,12 +43,37 @@ pub struct Made {
 pub enum Fault {
     /// A line of the sheet.
     Line(Box<Finding>),
-    /// A recording.
-    File(Stop),
+    /// A recording that cannot be read, by the line that names it.
+    Missing(Box<Finding>),
+    /// A recording that is refused: the sheet's line, and the refusal in whole lines.
+    Recording(usize, String),
 }
 
 impl From<Finding> for Fault {
     fn from(finding: Finding) -> Self {
         Self::Line(Box::new(finding))
+    }
+}
+
+/// A sheet's text with line feeds alone, whatever the editor wrote; else what it has, and where it is
+/// no text.
+pub fn decoded(bytes: &[u8]) -> Result<String, (String, Finding)> {
+    const ALLOWED: &str = "UTF-8 text: choose UTF-8 where the editor saves the file";
+    if bytes.starts_with(b"\xff\xfe") || bytes.starts_with(b"\xfe\xff") {
+        return Err((String::new(), Finding::whole("the sheet is UTF-16 text", ALLOWED)));
+    }
+    match std::str::from_utf8(bytes) {
+        Ok(text) => {
+            let text = text.trim_start_matches('\u{feff}');
+            Ok(text.replace("\r\n", "\n").replace('\r', "\n"))
+        }
+        Err(wrong) => {
+            let before = &bytes[..wrong.valid_up_to()];
+            let line = before.iter().filter(|&&byte| byte == b'\n').count() + 1;
+            let start = before.iter().rev().take_while(|&&byte| byte != b'\n').count();
+            let what = "a letter that is not written in UTF-8";
+            let lossy = String::from_utf8_lossy(bytes).into_owned();
+            Err((lossy, Finding::at(line, start..start + '\u{fffd}'.len_utf8(), what, ALLOWED)))
+        }
     }
 }

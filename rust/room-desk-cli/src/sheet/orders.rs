@@ -47,9 +47,8 @@ fn block(builder: &mut Builder, words: &mut Words) -> Result<i64, Finding> {
     if (landed - of(wanted)).abs() >= NEAR {
         let line = words.line;
         let (from, to) = (seconds(of(wanted)), seconds(landed));
-        builder
-            .notes
-            .push(format!("line {line}: {from} lands at {to}, the start of block {block}"));
+        let note = format!("{from} lands at {to}, the start of block {block}");
+        builder.notes.push((line, note));
     }
     Ok(block)
 }
@@ -82,6 +81,7 @@ fn what(builder: &Builder, words: &mut Words, order: &mut Order) -> Result<(), F
     match word.text.as_str() {
         "pause" | "resume" => {
             order.kind = if word.text == "pause" { PAUSE } else { RESUME };
+            can_pause(builder, words)?;
             order.index = builder.track_named(words)?;
             Ok(())
         }
@@ -93,6 +93,19 @@ fn what(builder: &Builder, words: &mut Words, order: &mut Order) -> Result<(), F
         }
         _ => Err(words.wrong(&word, "is no order", WHAT)),
     }
+}
+
+/// Only tracks are paused; the others are turned down.
+fn can_pause(builder: &Builder, words: &mut Words) -> Result<(), Finding> {
+    let name = words.peek().unwrap_or_default().to_string();
+    let what = match name.as_str() {
+        "main" => "the main track",
+        name if builder.names.sends.iter().any(|send| send == name) => "a send track",
+        _ => return Ok(()),
+    };
+    let word = words.next("the name of a track")?;
+    let why = format!("is {what}, which cannot be paused");
+    Err(words.wrong(&word, &why, format!("a track, or `set {name} to -60 dB`")))
 }
 
 fn target(builder: &Builder, words: &mut Words, order: &mut Order) -> Result<(), Finding> {
@@ -109,8 +122,8 @@ fn target(builder: &Builder, words: &mut Words, order: &mut Order) -> Result<(),
     if !all.any(|known| *known == name) {
         let word = words.next("the name of a track or a send track")?;
         let all = builder.names.tracks.iter().chain(&builder.names.sends);
-        let known = super::names::known(&name, all, "track");
-        return Err(words.wrong(&word, "is no track here", known));
+        let known = super::names::known(&name, all, "track or send track");
+        return Err(words.wrong(&word, "is no track and no send track here", known));
     }
     order.kind = 1;
     order.index = builder.track_named(words)?;
@@ -122,12 +135,7 @@ fn target(builder: &Builder, words: &mut Words, order: &mut Order) -> Result<(),
         let Some(at) = builder.scene.routes.iter().position(routed) else {
             let what = format!("{name} is not routed to {word}");
             let allowed = "a send track that stands in a `to` line of the track";
-            return Err(Finding {
-                line: Some(words.line),
-                what,
-                allowed: allowed.into(),
-                span: None,
-            });
+            return Err(Finding::of_line(words.line, what, allowed));
         };
         (order.kind, order.index) = (3, at + 1);
     }

@@ -6,13 +6,16 @@ use super::Fault;
 use super::build::Builder;
 use super::values::frames;
 use super::words::{Word, Words};
-use crate::recordings::Both;
+use crate::guess::meant;
+use crate::recordings::{Both, Form, form};
 use crate::scene::model::RESUME;
 use crate::scene::tables::Kind;
-use crate::scene::{Order, Sound, Track};
+use crate::scene::{Finding, Order, Sound, Track};
+use crate::stop::Stop;
 use crate::units::{millis, seconds};
 
-const PLAY: &str = "from TIME, for TIME, at TIME or on TRACK";
+const PLAY: &str =
+    "from TIME, for TIME, at TIME or on TRACK; the name of a file with spaces stands in \"quotes\"";
 
 impl Builder<'_> {
     pub fn recording(&mut self, words: &mut Words, from: usize) -> Result<(), Fault> {
@@ -24,22 +27,27 @@ impl Builder<'_> {
     }
 
     fn add_recording(&mut self, words: &Words, file: &Word, from: usize) -> Result<(), Fault> {
-        let path = self.folder.join(&file.text).display().to_string();
-        let added = self.recordings.of_mut(from).add(&file.text, &path);
-        let rate = added.map_err(Fault::File)?.rate;
-        match rate {
-            Some(rate) if i64::from(rate) != self.scene.head.rate => self.notes.push(format!(
-                "line {}: {} has {rate} frames a second, the show {}",
-                words.line, file.text, self.scene.head.rate
-            )),
-            _ => {}
+        let path = self.folder.join(&file.text);
+        let added = self.recordings.of_mut(from).add(&file.text, &path.display().to_string());
+        let part = added.map_err(|stop| match stop {
+            Stop::Refused(text) => Fault::Recording(words.line, text),
+            Stop::File(why) | Stop::Usage(why) => {
+                let span = file.span.clone();
+                Fault::Missing(Box::new(Finding::at(words.line, span, why, beside(&path))))
+            }
+        })?;
+        part.line = Some(words.line);
+        let rate = part.rate.map_or(self.scene.head.rate, i64::from);
+        if rate != self.scene.head.rate {
+            let show = self.scene.head.rate;
+            let note = format!("{} has {rate} frames a second, the show {show}", file.text);
+            self.notes.push((words.line, note));
         }
         Ok(())
     }
 
     pub fn play(&mut self, words: &mut Words, owner: usize) -> Result<(), Fault> {
         let file = words.next("a recording, `house` or `visitor`")?;
-        let (from, start, length) = self.source(words, &file)?;
         let (mut first, mut count, mut at, mut track) = (0, None, None, owner);
         while !words.is_empty() {
             let next = words.next("")?;
@@ -48,9 +56,15 @@ impl Builder<'_> {
                 "for" => count = Some(frames(words, self.grid())?),
                 "at" => at = Some(frames(words, self.grid())?),
                 "on" => track = self.track_named(words)?,
-                _ => return Err(words.wrong(&next, "here", PLAY).into()),
+                _ => return Err(words.wrong(&next, "is not understood here", PLAY).into()),
             }
         }
+        // On the main track it would be heard past the track that it was written below.
+        if track == 0 && words.indent > self.margin {
+            return Err(self.below_nothing(words, &file).into());
+        }
+        // The whole line is read before the file is looked for.
+        let (from, start, length) = self.source(words, &file)?;
         let count = count.unwrap_or((length - first).max(0));
         if start.is_some() && first + count > length {
             let long = seconds(length as f64 / self.scene.rate());
@@ -111,4 +125,23 @@ impl Builder<'_> {
         self.made(Kind::Orders, words.line);
         index
     }
+}
+
+/// The recordings in the folder in which one was looked for.
+fn beside(path: &Path) -> String {
+    let folder = path.parent().filter(|folder| !folder.as_os_str().is_empty());
+    let shown =
+        folder.map_or("beside the sheet".into(), |folder| format!("in {}", folder.display()));
+    let entries = folder.unwrap_or(Path::new(".")).read_dir().into_iter().flatten().flatten();
+    let names = entries.map(|entry| entry.file_name().to_string_lossy().into_owned());
+    let mut names: Vec<String> = names.filter(|name| form(name, &[]) != Form::Raw).collect();
+    names.sort();
+    if names.is_empty() {
+        return format!("a recording; there is none {shown}");
+    }
+    let wanted = path.file_name().unwrap_or_default().to_string_lossy();
+    let guess = meant(&wanted, names.iter().map(String::as_str));
+    let listed = names.iter().take(12).cloned().collect::<Vec<_>>().join(", ");
+    let more = if names.len() > 12 { ", ..." } else { "" };
+    format!("a recording {shown}: {listed}{more}{guess}")
 }

@@ -19,7 +19,10 @@ impl Builder<'_> {
         }
         let mut taken = self.names.tracks.iter().chain(&self.names.sends);
         if taken.any(|name| *name == word.text) {
-            return Err(words.wrong(&word, "is the name of a track already", "another name"));
+            let send = self.names.sends.contains(&word.text);
+            let why = if send { "send track" } else { "track" };
+            let why = format!("is the name of a {why} already");
+            return Err(words.wrong(&word, &why, "another name"));
         }
         Ok(word.text)
     }
@@ -40,7 +43,7 @@ impl Builder<'_> {
             match unit.text.as_str() {
                 "second" => (1, speed),
                 "minute" => (2, speed),
-                _ => return Err(words.wrong(&unit, "here", CLOCK)),
+                _ => return Err(words.wrong(&unit, "is not understood here", CLOCK)),
             }
         };
         let ticking = i64::from(!words.take("stopped"));
@@ -59,10 +62,14 @@ impl Builder<'_> {
         Ok(())
     }
 
-    pub fn track(&mut self, words: &mut Words, owner: usize) -> Result<(), Finding> {
+    pub fn track(&mut self, words: &mut Words, word: &Word, owner: usize) -> Result<(), Finding> {
         let name = self.new_name(words)?;
         let volume = level_or_zero(words)?;
         let parent = if words.take("in") { self.track_named(words)? } else { owner };
+        // Right under the mixer it would be heard past the track that it was written below.
+        if parent == 0 && words.indent > self.margin {
+            return Err(self.below_nothing(words, word));
+        }
         self.names.tracks.push(name);
         self.scene.tracks.push(Track { parent, volume });
         self.made(Kind::Tracks, words.line);
@@ -84,9 +91,17 @@ impl Builder<'_> {
         found.map(|at| at + 1).ok_or_else(|| words.wrong(&word, "is no send track here", known()))
     }
 
+    pub fn below_nothing(&self, words: &Words, word: &Word) -> Finding {
+        let ended = match self.ended.filter(|_| words.indent > self.margin) {
+            Some(line) => format!("; line {line}, at the margin, has ended the one above"),
+            None => String::new(),
+        };
+        words.wrong(word, "stands below no track", format!("indented below a track{ended}"))
+    }
+
     pub fn to(&mut self, words: &mut Words, word: &Word, owner: usize) -> Result<(), Finding> {
         if owner == 0 {
-            return Err(words.wrong(word, "stands below no track", "indented below a track"));
+            return Err(self.below_nothing(words, word));
         }
         let send = self.send_named(words)?;
         self.add_route(words, owner, send)
@@ -135,7 +150,7 @@ impl Builder<'_> {
         Self::not_yet(words, word)?;
         let track = if words.take("on") { self.track_named(words)? } else { owner };
         if track == 0 {
-            return Err(words.wrong(word, "stands below no track", "indented below a track"));
+            return Err(self.below_nothing(words, word));
         }
         let place = Self::point(words)?;
         words.expect("near", "`near METRES far METRES`")?;

@@ -22,7 +22,7 @@ pub struct Words {
 }
 
 impl Words {
-    /// Splits at spaces, up to a comment; a word in quotes may have spaces.
+    /// Splits at spaces, up to a comment; a word in quotes, straight or curly, may have spaces.
     pub fn of(line: usize, text: &str) -> Result<Self, Finding> {
         let indent = text.len() - text.trim_start_matches(' ').len();
         if let Some(tab) = text.find('\t').filter(|tab| text[..*tab].trim().is_empty()) {
@@ -39,7 +39,7 @@ impl Words {
             match first {
                 '#' => break,
                 _ if first.is_whitespace() => continue,
-                '"' => words.push(in_quotes(line, text, start, &mut rest)?),
+                '"' | '“' | '„' | '”' => words.push(in_quotes(line, text, start, &mut rest)?),
                 _ => {
                     let plain = |c: char| !c.is_whitespace() && c != '#';
                     while rest.next_if(|(_, c)| plain(*c)).is_some() {}
@@ -78,7 +78,7 @@ impl Words {
             return Ok(());
         }
         match self.words.get(self.next) {
-            Some(word) => Err(self.wrong(word, "here", wanted)),
+            Some(word) => Err(self.wrong(word, "is not understood here", wanted)),
             None => Err(self.missing(wanted)),
         }
     }
@@ -104,10 +104,11 @@ impl Words {
 type Chars<'a> = std::iter::Peekable<std::str::CharIndices<'a>>;
 
 fn in_quotes(line: usize, text: &str, start: usize, rest: &mut Chars) -> Result<Word, Finding> {
+    let inside = start + text[start..].chars().next().map_or(0, char::len_utf8);
     for (at, c) in rest.by_ref() {
-        if c == '"' {
-            return Ok(Word { text: text[start + 1..at].into(), span: start..at + 1 });
+        if ['"', '”', '“'].contains(&c) {
+            return Ok(Word { text: text[inside..at].into(), span: start..at + c.len_utf8() });
         }
     }
-    Err(Finding::at(line, start..start + 1, "a quote that does not end", "a second quote"))
+    Err(Finding::at(line, start..inside, "a quote that does not end", "a second quote"))
 }

@@ -62,11 +62,6 @@ pub fn stored() -> Vec<Case> {
     cases
 }
 
-/// Whether the library has the routine about silence.
-pub fn asks_silence() -> bool {
-    room_desk::silent(b"", Default::default()).is_some()
-}
-
 /// Runs the command in a folder.
 pub fn run_in(folder: &Path, words: &[&str]) -> Output {
     let mut command = Command::new(env!("CARGO_BIN_EXE_room-desk"));
