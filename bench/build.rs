@@ -1,14 +1,14 @@
-//! Finds the static library that `rt staticlib room_desk` writes.
+//! Finds the archive that `rust/archive` writes.
 
 use std::{env, path::Path};
 
 fn main() {
-	let folder = Path::new(env!("CARGO_MANIFEST_DIR")).join("../target/staticlib");
+	let folder = Path::new(env!("CARGO_MANIFEST_DIR")).join("../target/product");
 	let library = folder.join("libroom_desk.a");
 	println!("cargo::rerun-if-changed={}", library.display());
 	if !library.exists() {
 		println!(
-			"cargo::error=no target/staticlib/libroom_desk.a: run `rt staticlib room_desk` at the repository's root"
+			"cargo::error=no target/product/libroom_desk.a: run `rust/archive` at the repository's root"
 		);
 		return;
 	}

@@ -1,16 +1,21 @@
 #!/usr/bin/env python3
-"""Writes the cases that the gate runs through the AIFF routines and the converters, and the answers that they must give: crates/test_aiff/stdin
-and stdout."""
+"""The cases that the gate runs through the AIFF routines and the converters, and the answers that they must give.
+
+    tools/aiff_vectors.py             writes crates/test_aiff/stdin and stdout
+    tools/aiff_vectors.py --check     writes nothing, and says whether they are as it would write them
+"""
 
 import pathlib
 import struct
+import sys
 
 import aiff_cases
 import sound_files
 import wave_cases
+from case_stream import store
 from wave_vectors import plain as plain_wave
 
-FOLDER = pathlib.Path(__file__).resolve().parent.parent / "crates/test_aiff"
+CRATE = pathlib.Path(__file__).resolve().parent.parent / "crates/test_aiff"
 SEED = 20260701
 RATE = struct.pack(">HQ", 16383 + 15, 44100 << 48)
 
@@ -81,10 +86,9 @@ def chosen():
 
 def main():
     cases = chosen() + [c for c in aiff_cases.cases(SEED, 120) if len(c) < 1500]
-    FOLDER.mkdir(exist_ok=True)
-    (FOLDER / "stdin").write_bytes(b"".join(cases))
-    (FOLDER / "stdout").write_text("".join(aiff_cases.answer(c)[0] + "\n" for c in cases))
+    made = {"stdin": b"".join(cases), "stdout": "".join(aiff_cases.answer(c)[0] + "\n" for c in cases).encode()}
     print(len(cases), "cases")
+    store(CRATE, made, sys.argv[1:] == ["--check"])
 
 
 if __name__ == "__main__":

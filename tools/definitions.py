@@ -17,14 +17,18 @@ import pathlib
 ROOT = pathlib.Path(__file__).resolve().parent.parent
 # the routines for users
 ROUTINES = {
-    "decibels": ["Decibels::as_amplitude", "room_desk_amplitude"],
-    "room_desk": ["render", "room_desk_render"],
-    "silent_tracks": ["silent", "room_desk_silent"],
+    "decibels": ["Decibels::as_amplitude"],
+    "room_desk": ["render"],
+    "c_interface": [
+        "room_desk_render",
+        "room_desk_silent",
+        "room_desk_amplitude",
+        *(f"room_desk_{form}_{does}" for form in ("wave", "aiff") for does in ("info", "read", "write", "length")),
+        "room_desk_wave_to_aiff",
+        "room_desk_aiff_to_wave",
+    ],
     "render_files": ["render_text"],
     "month_files": ["month_text"],
-    "wave": ["room_desk_wave_info", "room_desk_wave_read", "room_desk_wave_write", "room_desk_wave_length"],
-    "aiff": ["room_desk_aiff_info", "room_desk_aiff_read", "room_desk_aiff_write", "room_desk_aiff_length"],
-    "sound_converter": ["room_desk_wave_to_aiff", "room_desk_aiff_to_wave"],
 }
 # the theorems that stand beside the contracts
 THEOREMS = [

@@ -1,9 +1,10 @@
 #!/usr/bin/env python3
 """The list of small inputs that `test_scene` runs: writes its stdin and its stdout.
 
-    scene_vectors.py FOLDER             writes FOLDER/stdin and FOLDER/stdout
-    scene_vectors.py --oracle ORACLE    asks the oracle for every number and compares
-    scene_vectors.py --list             prints the list
+    tools/scene_vectors.py                    writes crates/test_scene/stdin and stdout
+    tools/scene_vectors.py --check            writes nothing, and says whether they are as it would write them
+    tools/scene_vectors.py --oracle ORACLE    asks the oracle for every number and compares
+    tools/scene_vectors.py --list             prints the list
 
 Each vector says the number that docs/REFUSALS.md gives, which is decided here and not asked of any program.
 """
@@ -13,8 +14,10 @@ import struct
 import sys
 
 import scene_cases
+from case_stream import store
 from scene_cases import LIMITS, NAMES, RANGES
 
+CRATE = pathlib.Path(__file__).resolve().parent.parent / "crates/test_scene"
 HEAD, CLOCKS, TRACKS, SENDS, ROUTES, SOUNDS, LISTENER, PLACINGS, ORDERS = range(len(NAMES))
 
 
@@ -483,10 +486,10 @@ def stream():
 
 
 if __name__ == "__main__":
-    if sys.argv[1] == "--list":
+    if sys.argv[1:] == ["--list"]:
         for k, (name, expected, *_rest) in enumerate(VECTORS):
             print(k, expected, name)
-    elif sys.argv[1] == "--oracle":
+    elif sys.argv[1:2] == ["--oracle"]:
         theirs = scene_cases.oracle_numbers(sys.argv[2], stream())
         wrong = [(k, v[0], v[1], n) for k, (v, n) in enumerate(zip(VECTORS, theirs)) if v[1] != n]
         for k, name, ours, n in wrong:
@@ -494,7 +497,6 @@ if __name__ == "__main__":
         print(f"{len(VECTORS)} vectors, {len(wrong)} differ")
         sys.exit(1 if wrong or len(theirs) != len(VECTORS) else 0)
     else:
-        folder = pathlib.Path(sys.argv[1])
-        (folder / "stdin").write_bytes(stream())
-        (folder / "stdout").write_text("".join(f"{v[1]}\n" for v in VECTORS))
         print(f"{len(VECTORS)} vectors")
+        files = {"stdin": stream(), "stdout": "".join(f"{v[1]}\n" for v in VECTORS).encode()}
+        store(CRATE, files, sys.argv[1:] == ["--check"])

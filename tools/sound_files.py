@@ -173,7 +173,7 @@ def aiff_sound_in(file):
         return 14, None
     if not read_kind:
         return 15, None
-    if rate is None or rate.denominator != 1 or rate not in RATES:
+    if rate is None or rate.denominator != 1 or int(rate) not in RATES:
         return 18, None
     return 0, (int(rate), channels, frames, at + 8 + offset)
 

@@ -1,14 +1,20 @@
 #!/usr/bin/env python3
-"""Writes the cases that the gate runs through the WAVE routines, and the answers that they must give: crates/test_wave/stdin and stdout."""
+"""The cases that the gate runs through the WAVE routines, and the answers that they must give.
+
+    tools/wave_vectors.py             writes crates/test_wave/stdin and stdout
+    tools/wave_vectors.py --check     writes nothing, and says whether they are as it would write them
+"""
 
 import pathlib
 import random
 import struct
+import sys
 
 import sound_files
 import wave_cases
+from case_stream import store
 
-FOLDER = pathlib.Path(__file__).resolve().parent.parent / "crates/test_wave"
+CRATE = pathlib.Path(__file__).resolve().parent.parent / "crates/test_wave"
 SEED = 20260101
 
 
@@ -53,10 +59,9 @@ def chosen():
 
 def main():
     cases = chosen() + [c for c in wave_cases.cases(SEED, 110) if len(c) < 1500]
-    FOLDER.mkdir(exist_ok=True)
-    (FOLDER / "stdin").write_bytes(b"".join(cases))
-    (FOLDER / "stdout").write_text("".join(wave_cases.answer(c)[0] + "\n" for c in cases))
+    made = {"stdin": b"".join(cases), "stdout": "".join(wave_cases.answer(c)[0] + "\n" for c in cases).encode()}
     print(len(cases), "cases")
+    store(CRATE, made, sys.argv[1:] == ["--check"])
 
 
 if __name__ == "__main__":

@@ -1,6 +1,6 @@
 //! The routines of `aiff` and `sound_converter`, by slices. For the driver beside it.
 
-#[link(name = "aiff", kind = "static")]
+#[link(name = "room_desk", kind = "static")]
 unsafe extern "C" {
     // A slice is passed as its first element's place and its length.
     fn room_desk_aiff_info(
@@ -28,7 +28,7 @@ unsafe extern "C" {
     fn room_desk_aiff_length(samples: usize, channels: u32) -> usize;
 }
 
-#[link(name = "sound_converter", kind = "static")]
+#[link(name = "room_desk", kind = "static")]
 unsafe extern "C" {
     fn room_desk_wave_to_aiff(wave: *const u8, wave_length: usize, aiff: *mut u8, aiff_length: usize) -> u32;
     fn room_desk_aiff_to_wave(aiff: *const u8, aiff_length: usize, wave: *mut u8, wave_length: usize) -> u32;

@@ -12,7 +12,7 @@ use rule::{Answer, Rule, LIMIT};
 use std::hint::black_box;
 use std::time::Instant;
 
-#[link(name = "decibels", kind = "static")]
+#[link(name = "room_desk", kind = "static")]
 extern "C" {
     fn room_desk_amplitude(decibels: f32, amplitude: &mut f32) -> u32;
 }

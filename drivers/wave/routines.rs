@@ -1,6 +1,6 @@
 //! The routines of `wave`, by slices. For the driver and the bench beside it.
 
-#[link(name = "wave", kind = "static")]
+#[link(name = "room_desk", kind = "static")]
 unsafe extern "C" {
     // A slice is passed as its first element's place and its length.
     fn room_desk_wave_info(

@@ -1,13 +1,12 @@
 //! Finds the archive of the proved routines, or says which command makes it.
 
+use std::env;
 use std::path::{Path, PathBuf};
-use std::{env, fs};
 
 const ARCHIVE: &str = "libroom_desk.a";
 
 fn main() {
     println!("cargo::rerun-if-env-changed=ROOM_DESK_LIB_DIR");
-    println!("cargo::rustc-check-cfg=cfg(room_desk_silent)");
     let target = env::var("TARGET").unwrap_or_default();
     if !(target.starts_with("x86_64-") && target.contains("-linux-")) {
         println!(
@@ -18,18 +17,13 @@ fn main() {
     let folder = folder();
     let archive = folder.join(ARCHIVE);
     println!("cargo::rerun-if-changed={}", archive.display());
-    let Ok(bytes) = fs::read(&archive) else {
+    if !archive.is_file() {
         println!(
             "cargo::error=no {}: run `rust/archive` at the repository's root (it proves the crates \
              first, which takes minutes), or set ROOM_DESK_LIB_DIR to the folder that has it",
             archive.display()
         );
         return;
-    };
-    // The routine about silence is not in every archive yet.
-    let symbol = b"\0room_desk_silent\0";
-    if bytes.windows(symbol.len()).any(|part| part == symbol) {
-        println!("cargo::rustc-cfg=room_desk_silent");
     }
     println!("cargo::rustc-link-search=native={}", folder.display());
     println!("cargo::rustc-link-lib=static=room_desk");

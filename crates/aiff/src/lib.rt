@@ -2,7 +2,7 @@
 // samples. Each answers 0, or the number of its refusal, and then writes nothing.
 mod routines;
 
-pub use routines::room_desk_aiff_info;
-pub use routines::room_desk_aiff_length;
-pub use routines::room_desk_aiff_read;
-pub use routines::room_desk_aiff_write;
+pub use routines::info;
+pub use routines::length;
+pub use routines::read;
+pub use routines::write;

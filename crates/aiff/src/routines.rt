@@ -1,4 +1,4 @@
-// The routines that C and Rust call.
+// The routines for users.
 ghost use mathlib.Core.Path.{_≡_};
 ghost use mathlib.Core.List.{List};
 ghost use Prim.Native.Nat.{ℕ};
@@ -12,13 +12,7 @@ ghost use Rattle.aiff_reader.specs.Read.{held, infoOf, readOf};
 ghost use Rattle.aiff_writer.specs.Write.{lengthFor, writeOf};
 
 // What a file holds: its rate, channels (1 or 2) and frames.
-#[no_mangle]
-pub extern "C" fn room_desk_aiff_info(
-    file: &[u8],
-    rate: &mut u32,
-    channels: &mut u32,
-    frames: &mut u32,
-) -> u32
+pub fn info(file: &[u8], rate: &mut u32, channels: &mut u32, frames: &mut u32) -> u32
     ensures { λ r. ⌜ held r (now (rate .exit)) (now (channels .exit)) (now (frames .exit))
         ≡ infoOf (now (file .entry)) (now (rate .entry)) (now (channels .entry)) (now (frames .entry)) ⌝ }
 {
@@ -26,21 +20,14 @@ pub extern "C" fn room_desk_aiff_info(
 }
 
 // A file's samples, two for each frame, and its rate.
-#[no_mangle]
-pub extern "C" fn room_desk_aiff_read(file: &[u8], samples: &mut [f32], rate: &mut u32) -> u32
+pub fn read(file: &[u8], samples: &mut [f32], rate: &mut u32) -> u32
     ensures { λ r. ⌜ reading r (now (samples .exit)) (now (rate .exit)) ≡ readOf (now (file .entry)) (now (samples .entry)) (now (rate .entry)) ⌝ }
 {
     aiff_reader::read(file, samples, rate)
 }
 
 // The file of given samples. It reads back to them, where 16 bits and its channels can hold them.
-#[no_mangle]
-pub extern "C" fn room_desk_aiff_write(
-    rate: u32,
-    channels: u32,
-    samples: &[f32],
-    file: &mut [u8],
-) -> u32
+pub fn write(rate: u32, channels: u32, samples: &[f32], file: &mut [u8]) -> u32
     ensures answer { λ r. ⌜ writing r (now (file .exit)) ≡ writeOf rate channels (now (samples .entry)) (now (file .entry)) ⌝ }
     ensures back { λ r. ⌜ (r ≡ 0 → ComesBack Pcm16 channels (now (samples .entry))
         → (there : List Float) (old : ℕ) → length there ≡ length (now (samples .entry))
@@ -50,8 +37,7 @@ pub extern "C" fn room_desk_aiff_write(
 }
 
 // The bytes of the file of so many samples, or 0 where there is no such file.
-#[no_mangle]
-pub extern "C" fn room_desk_aiff_length(samples: usize, channels: u32) -> usize
+pub fn length(samples: usize, channels: u32) -> usize
     ensures { λ r. ⌜ r ≡ lengthFor samples channels ⌝ }
 {
     aiff_writer::length(samples, channels)

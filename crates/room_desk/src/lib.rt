@@ -3,4 +3,3 @@
 mod rendering;
 
 pub use rendering::render;
-pub use rendering::room_desk_render;

@@ -24,20 +24,3 @@ pub fn render<'a>(scene: &[u8], samples: &'a [f32], visitor: &'a [f32], output: 
     render_scene(tables, samples, visitor, output);
     0
 }
-
-#[no_mangle]
-pub extern "C" fn room_desk_render<'a>(
-    scene: &[u8],
-    samples: &'a [f32],
-    visitor: &'a [f32],
-    output: &mut [f32],
-) -> u32
-    ensures number { λ r. ⌜ (let heard = recordings (now (samples .entry)) (now (visitor .entry)) in
-        r ≡ answer (now (scene .entry)) heard (length (now (output .entry)))) ⌝ }
-    ensures output { λ _. ⌜ (let heard = recordings (now (samples .entry)) (now (visitor .entry)) in
-        now (output .exit) ≡ outputOf (now (scene .entry)) heard (now (output .entry))) ⌝ }
-    ensures silence { λ _. ⌜ (let heard = recordings (now (samples .entry)) (now (visitor .entry)) in
-        InsideUnheard (now (scene .entry)) heard (now (output .entry)) (now (output .exit))) ⌝ }
-{
-    render(scene, samples, visitor, output)
-}

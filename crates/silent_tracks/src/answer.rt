@@ -52,18 +52,3 @@ pub fn silent<'a>(scene: &[u8], samples: &'a [f32], visitor: &'a [f32], tracks: 
     }
     answer_tracks(scene, tracks)
 }
-
-#[no_mangle]
-pub extern "C" fn room_desk_silent<'a>(
-    scene: &[u8],
-    samples: &'a [f32],
-    visitor: &'a [f32],
-    tracks: &mut [u32],
-) -> u32
-    ensures number { λ r. ⌜ (let heard = recordings (now (samples .entry)) (now (visitor .entry)) in
-        r ≡ silentAnswer (now (scene .entry)) heard (length (now (tracks .entry)))) ⌝ }
-    ensures tracks { λ _. ⌜ (let heard = recordings (now (samples .entry)) (now (visitor .entry)) in
-        now (tracks .exit) ≡ silencesOf (now (scene .entry)) heard (now (tracks .entry))) ⌝ }
-{
-    silent(scene, samples, visitor, tracks)
-}

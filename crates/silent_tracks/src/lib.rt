@@ -6,5 +6,4 @@ mod muted;
 mod orders;
 mod tracks;
 
-pub use answer::room_desk_silent;
 pub use answer::silent;

@@ -2,5 +2,5 @@
 mod routines;
 mod values;
 
-pub use routines::room_desk_aiff_to_wave;
-pub use routines::room_desk_wave_to_aiff;
+pub use routines::aiff_to_wave;
+pub use routines::wave_to_aiff;

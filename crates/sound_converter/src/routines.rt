@@ -1,4 +1,4 @@
-// The routines that C and Rust call.
+// The routines for users.
 ghost use mathlib.Core.Path.{_≡_};
 ghost use mathlib.Core.Logic.{_⊎_};
 ghost use Prim.Native.Nat.{_≤_};
@@ -94,8 +94,7 @@ fn to_aiff(wave: &[u8], sound: Sound, aiff: &mut [u8]) -> u32
 }
 
 // The AIFF file of a WAVE file's samples, where 16 bits hold them.
-#[no_mangle]
-pub extern "C" fn room_desk_wave_to_aiff(wave: &[u8], aiff: &mut [u8]) -> u32
+pub fn wave_to_aiff(wave: &[u8], aiff: &mut [u8]) -> u32
     ensures { λ r. ⌜ writing r (now (aiff .exit)) ≡ waveToAiff (now (wave .entry)) (now (aiff .entry)) ⌝ }
 {
     match wave_sound::sound_in(wave) {
@@ -150,8 +149,7 @@ fn to_wave(aiff: &[u8], sound: Sound, wave: &mut [u8]) -> u32
 }
 
 // The 16-bit WAVE file of an AIFF file's samples.
-#[no_mangle]
-pub extern "C" fn room_desk_aiff_to_wave(aiff: &[u8], wave: &mut [u8]) -> u32
+pub fn aiff_to_wave(aiff: &[u8], wave: &mut [u8]) -> u32
     ensures { λ r. ⌜ writing r (now (wave .exit)) ≡ aiffToWave (now (aiff .entry)) (now (wave .entry)) ⌝ }
 {
     match aiff_sound::sound_in(aiff) {

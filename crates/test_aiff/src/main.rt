@@ -41,7 +41,7 @@ fn answer_info(file: &[u8]) {
     let mut rate = 1;
     let mut channels = 2;
     let mut frames = 3;
-    print(aiff::room_desk_aiff_info(file, &mut rate, &mut channels, &mut frames));
+    print(aiff::info(file, &mut rate, &mut channels, &mut frames));
     print(rate);
     print(channels);
     print(frames);
@@ -50,7 +50,7 @@ fn answer_info(file: &[u8]) {
 fn answer_read(file: &[u8], samples: &mut [f32]) {
     let mut rate = 4;
     answer_info(file);
-    print(aiff::room_desk_aiff_read(file, samples, &mut rate));
+    print(aiff::read(file, samples, &mut rate));
     print(rate);
     print_samples(samples);
 }
@@ -67,7 +67,7 @@ fn read_case(file: &[u8], room: usize) {
 }
 
 fn answer_write(rate: u32, channels: u32, samples: &[f32], file: &mut [u8]) {
-    print(aiff::room_desk_aiff_write(rate, channels, samples, file));
+    print(aiff::write(rate, channels, samples, file));
     print_bytes(file);
 }
 
@@ -85,9 +85,9 @@ fn write_case(rate: u32, channels: u32, bytes: &[u8], room: usize) {
 
 fn convert(kind: u32, file: &[u8], other: &mut [u8]) -> u32 {
     if kind == 2 {
-        return sound_converter::room_desk_wave_to_aiff(file, other);
+        return sound_converter::wave_to_aiff(file, other);
     }
-    sound_converter::room_desk_aiff_to_wave(file, other)
+    sound_converter::aiff_to_wave(file, other)
 }
 
 fn answer_convert(kind: u32, file: &[u8], other: &mut [u8]) {

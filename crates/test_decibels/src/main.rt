@@ -12,7 +12,7 @@ struct Tally {
 // no amplitude is.
 fn answers(decibels: f32, number: u64, amplitude: u32) -> bool {
     let mut place: f32 = -1.0;
-    let answer = decibels::room_desk_amplitude(decibels, &mut place) as u64;
+    let answer = decibels::write_amplitude(decibels, &mut place) as u64;
     if answer != number {
         return false;
     }

@@ -41,7 +41,7 @@ fn answer_info(file: &[u8]) {
     let mut channels = 2;
     let mut bits = 3;
     let mut frames = 4;
-    print(wave::room_desk_wave_info(file, &mut rate, &mut channels, &mut bits, &mut frames));
+    print(wave::info(file, &mut rate, &mut channels, &mut bits, &mut frames));
     print(rate);
     print(channels);
     print(bits);
@@ -51,7 +51,7 @@ fn answer_info(file: &[u8]) {
 fn answer_read(file: &[u8], samples: &mut [f32]) {
     let mut rate = 5;
     answer_info(file);
-    print(wave::room_desk_wave_read(file, samples, &mut rate));
+    print(wave::read(file, samples, &mut rate));
     print(rate);
     print_samples(samples);
 }
@@ -68,7 +68,7 @@ fn read_case(file: &[u8], room: usize) {
 }
 
 fn answer_write(rate: u32, channels: u32, bits: u32, samples: &[f32], file: &mut [u8]) {
-    print(wave::room_desk_wave_write(rate, channels, bits, samples, file));
+    print(wave::write(rate, channels, bits, samples, file));
     print_bytes(file);
 }
 

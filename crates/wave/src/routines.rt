@@ -1,4 +1,4 @@
-// The routines that C and Rust call.
+// The routines for users.
 ghost use mathlib.Core.Path.{_≡_};
 ghost use mathlib.Core.List.{List};
 ghost use Prim.Native.Nat.{ℕ};
@@ -9,8 +9,7 @@ ghost use Rattle.wave_writer.specs.Write.{lengthFor, writing, writeOf};
 ghost use Rattle.wave.specs.ReadBack.{ReadsBack};
 
 // What a file holds: its rate, channels (1 or 2), bits of a sample (16 or 32) and frames.
-#[no_mangle]
-pub extern "C" fn room_desk_wave_info(
+pub fn info(
     file: &[u8],
     rate: &mut u32,
     channels: &mut u32,
@@ -24,22 +23,14 @@ pub extern "C" fn room_desk_wave_info(
 }
 
 // A file's samples, two for each frame, and its rate.
-#[no_mangle]
-pub extern "C" fn room_desk_wave_read(file: &[u8], samples: &mut [f32], rate: &mut u32) -> u32
+pub fn read(file: &[u8], samples: &mut [f32], rate: &mut u32) -> u32
     ensures { λ r. ⌜ reading r (now (samples .exit)) (now (rate .exit)) ≡ readOf (now (file .entry)) (now (samples .entry)) (now (rate .entry)) ⌝ }
 {
     wave_reader::read(file, samples, rate)
 }
 
 // The file of given samples. It reads back to them, where 16 bits and one channel can hold them.
-#[no_mangle]
-pub extern "C" fn room_desk_wave_write(
-    rate: u32,
-    channels: u32,
-    bits: u32,
-    samples: &[f32],
-    file: &mut [u8],
-) -> u32
+pub fn write(rate: u32, channels: u32, bits: u32, samples: &[f32], file: &mut [u8]) -> u32
     ensures answer { λ r. ⌜ writing r (now (file .exit)) ≡ writeOf rate channels bits (now (samples .entry)) (now (file .entry)) ⌝ }
     ensures back { λ r. ⌜ (r ≡ 0 → ReadsBack bits channels (now (samples .entry))
         → (there : List Float) (old : ℕ) → length there ≡ length (now (samples .entry))
@@ -49,8 +40,7 @@ pub extern "C" fn room_desk_wave_write(
 }
 
 // The bytes of the file of so many samples, or 0 where there is no such file.
-#[no_mangle]
-pub extern "C" fn room_desk_wave_length(samples: usize, channels: u32, bits: u32) -> usize
+pub fn length(samples: usize, channels: u32, bits: u32) -> usize
     ensures { λ r. ⌜ r ≡ lengthFor samples channels bits ⌝ }
 {
     wave_writer::length(samples, channels, bits)

@@ -18,8 +18,8 @@ pub struct Answer(Vec<Silence>);
 /// Asks about an accepted show.
 pub fn ask(input: &Input) -> Answer {
     match room_desk::silent(&input.file, input.recordings.samples()) {
-        Some(Ok(tracks)) => Answer(tracks),
-        _ => Answer::default(),
+        Ok(tracks) => Answer(tracks),
+        Err(_) => Answer::default(),
     }
 }
 

@@ -14,7 +14,6 @@ mod raw {
             output_length: usize,
         ) -> u32;
         pub safe fn room_desk_amplitude(decibels: f32, amplitude: &mut f32) -> u32;
-        #[cfg(room_desk_silent)]
         pub fn room_desk_silent(
             scene: *const u8,
             scene_length: usize,
@@ -109,7 +108,6 @@ pub fn render(scene: &[u8], samples: &[f32], visitor: &[f32], output: &mut [f32]
     }
 }
 
-#[cfg(room_desk_silent)]
 pub fn silent(scene: &[u8], samples: &[f32], visitor: &[f32], tracks: &mut [u32]) -> u32 {
     // SAFETY: as in `render`.
     unsafe {

@@ -16,25 +16,13 @@ pub enum Silence {
 }
 
 /// Asks the proved routine which tracks are silent, line by line of the tracks table.
-/// `None` where the archive has no such routine: then silence is not known, and not denied.
-pub fn silent(scene: &[u8], recordings: Recordings) -> Option<Result<Vec<Silence>, Refusal>> {
-    asked(scene, recordings)
-}
-
-#[cfg(not(room_desk_silent))]
-fn asked(_: &[u8], _: Recordings) -> Option<Result<Vec<Silence>, Refusal>> {
-    None
-}
-
-#[cfg(room_desk_silent)]
-fn asked(scene: &[u8], recordings: Recordings) -> Option<Result<Vec<Silence>, Refusal>> {
+pub fn silent(scene: &[u8], recordings: Recordings) -> Result<Vec<Silence>, Refusal> {
     let mut tracks = vec![0; track_lines(scene)];
     let number = crate::ffi::silent(scene, recordings.house, recordings.visitor, &mut tracks);
-    let named = |_| tracks.into_iter().map(Silence::of).collect();
-    Some(crate::refusal::answer(number).map(named))
+    crate::refusal::answer(number)?;
+    Ok(tracks.into_iter().map(Silence::of).collect())
 }
 
-#[cfg(room_desk_silent)]
 impl Silence {
     fn of(number: u32) -> Self {
         match number {
@@ -47,7 +35,6 @@ impl Silence {
 }
 
 /// The value lines of the third table. A wrong count would be refused by 10.
-#[cfg(room_desk_silent)]
 fn track_lines(scene: &[u8]) -> usize {
     let mut tables = scene.split(|&byte| byte == b'\n').collect::<Vec<_>>();
     tables.pop();

@@ -1,12 +1,11 @@
-// The amplitude for C and Rust.
+// The amplitude, written to a place.
 ghost use mathlib.Core.Path.{_≡_};
 ghost use Rattle.decibels.specs.Answer.{amplitudeAnswer, writtenOver};
 use crate::decibels::AmplitudeAnswer;
 use crate::decibels::Decibels;
 
 // Returns 0 and writes the amplitude, or returns 11 and leaves what was there.
-#[no_mangle]
-pub extern "C" fn room_desk_amplitude(decibels: f32, amplitude: &mut f32) -> u32
+pub fn write_amplitude(decibels: f32, amplitude: &mut f32) -> u32
     ensures number { λ r. ⌜ r ≡ amplitudeAnswer decibels .number ⌝ }
     ensures written { λ _. ⌜ now (amplitude .exit) ≡ writtenOver (amplitudeAnswer decibels .value) (now (amplitude .entry)) ⌝ }
 {

@@ -1,9 +1,9 @@
--- `room_desk_aiff_to_wave` meets its contract. Assumes nothing.
+-- `aiff_to_wave` meets its contract. Assumes nothing.
 use mathlib.Core.Path.{_∙_}
 use Rattle.sound_converter.proofs.laws.Convert.{wave-holds, wave-refused}
 use borrow.Author.Needs.{needs}
-use Rattle.sound_converter.proofs.routines.room_desk_aiff_to_wave.Statement.{statement}
-use Rattle.sound_converter.proofs.routines.room_desk_aiff_to_wave.Tie as tie
+use Rattle.sound_converter.proofs.routines.aiff_to_wave.Statement.{statement}
+use Rattle.sound_converter.proofs.routines.aiff_to_wave.Tie as tie
 
 sound-in-requires : tie.Need-sound-in-requires
 sound-in-requires c κs = search needs
@@ -30,8 +30,8 @@ returns-2 c =
     let start = c .before .before .before .before .before .before in
     wave-refused (start .args .aiff .now) (start .args .wave .now) (c .before .number .given .0 .0) (cc)
 
-pub room-desk-aiff-to-wave-spec : {M : Type 1} → statement M
-room-desk-aiff-to-wave-spec =
+pub aiff-to-wave-spec : {M : Type 1} → statement M
+aiff-to-wave-spec =
     tie.close
     (tie.spec
     sound-in-requires

@@ -1,10 +1,10 @@
--- `room_desk_wave_to_aiff` meets its contract. Assumes nothing.
+-- `wave_to_aiff` meets its contract. Assumes nothing.
 use mathlib.Core.Path.{_∙_}
 use Rattle.wave_sound.proofs.laws.Holds.{holds-inside}
 use Rattle.sound_converter.proofs.laws.Convert.{aiff-holds, aiff-refused}
 use borrow.Author.Needs.{needs}
-use Rattle.sound_converter.proofs.routines.room_desk_wave_to_aiff.Statement.{statement}
-use Rattle.sound_converter.proofs.routines.room_desk_wave_to_aiff.Tie as tie
+use Rattle.sound_converter.proofs.routines.wave_to_aiff.Statement.{statement}
+use Rattle.sound_converter.proofs.routines.wave_to_aiff.Tie as tie
 
 sound-in-requires : tie.Need-sound-in-requires
 sound-in-requires c κs = search needs
@@ -33,8 +33,8 @@ returns-2 c =
     let start = c .before .before .before .before .before .before in
     aiff-refused (start .args .wave .now) (start .args .aiff .now) (c .before .number .given .0 .0) (cc)
 
-pub room-desk-wave-to-aiff-spec : {M : Type 1} → statement M
-room-desk-wave-to-aiff-spec =
+pub wave-to-aiff-spec : {M : Type 1} → statement M
+wave-to-aiff-spec =
     tie.close
     (tie.spec
     sound-in-requires

@@ -1,10 +1,10 @@
--- `room_desk_amplitude` meets its contract: it passes on what `as_amplitude` answers.
+-- `write_amplitude` meets its contract: it passes on what `as_amplitude` answers.
 -- Assumes nothing.
 use mathlib.Core.Path.{sym, ap, _∙_}
 use borrow.Author.Needs.{needs}
 use Rattle.decibels.specs.Answer.{Answer, answered, writtenOver}
-use Rattle.decibels.proofs.export.room_desk_amplitude.Statement.{statement}
-use Rattle.decibels.proofs.export.room_desk_amplitude.Tie as tie
+use Rattle.decibels.proofs.write.write_amplitude.Statement.{statement}
+use Rattle.decibels.proofs.write.write_amplitude.Tie as tie
 
 as-amplitude-requires : tie.Need-as-amplitude-requires
 as-amplitude-requires c κs = search needs
@@ -29,5 +29,5 @@ returns-2 c =
     let e = ap answered (sym (c .enum-told .given .1)) ∙ c .before .before .as-amplitude .ensures in
     (ap (λ (z : Answer). z .number) e, ap (λ (z : Answer). writtenOver (z .value) (start .args .amplitude .now)) e)
 
-pub room-desk-amplitude-spec : {M : Type 1} → statement M
-room-desk-amplitude-spec = tie.close (tie.spec as-amplitude-requires enum-known-answer enum-told returns returns-2)
+pub write-amplitude-spec : {M : Type 1} → statement M
+write-amplitude-spec = tie.close (tie.spec as-amplitude-requires enum-known-answer enum-told returns returns-2)
