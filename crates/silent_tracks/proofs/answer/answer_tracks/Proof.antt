@@ -19,7 +19,7 @@ returns : tie.Need-returns
 returns c =
     let start = c .before .before .before .before .before .before .before .before in
     let read = c .before .before .before .before .read-tables .ensures in
-    (refused-10 _ _ _ _ read (start .pre .0) (start .pre .1) (start .args .numbers .now) (c .if1 .taken), unwritten-10 _ _ _ _ read (start .pre .0) (start .pre .1) (start .args .numbers .now) (c .if1 .taken))
+    (refused-10 _ _ _ _ read (start .pre .0) (start .pre .1) (start .args .numbers .now) (λ e. omega (arith, c .if1 .taken)), unwritten-10 _ _ _ _ read (start .pre .0) (start .pre .1) (start .args .numbers .now) (λ e. omega (arith, c .if1 .taken)))
 
 slice-aggregate-put-silences : tie.Need-slice-aggregate-put-silences
 slice-aggregate-put-silences c = search needs
@@ -28,7 +28,7 @@ put-silences-requires : tie.Need-put-silences-requires
 put-silences-requires c κs =
     let start = c .before .before .before .before .before .before .before .before .before .before .before .before in
     let read = c .before .before .before .before .before .before .before .before .read-tables .ensures in
-    (layout-low _ _ _ _ read (start .pre .0) (start .pre .1), few-tracks _ _ _ _ read (start .pre .0) (start .pre .1) (start .args .numbers .now) (c .before .before .before .before .if1 .left))
+    (layout-low _ _ _ _ read (start .pre .0) (start .pre .1), few-tracks _ _ _ _ read (start .pre .0) (start .pre .1) (start .args .numbers .now) (omega (arith, c .before .before .before .before .if1 .left)))
 
 same-length : tie.Need-same-length
 same-length c = search needs
@@ -38,7 +38,7 @@ returns-2 c =
     let start = c .before .before .before .before .before .before .before .before .before .before .before .before .before .before .before in
     let read = c .before .before .before .before .before .before .before .before .before .before .before .read-tables .ensures in
     let same = c .before .before .before .before .before .before .before .if1 .left in
-    (accepted-10 _ _ _ _ read (start .pre .0) (start .pre .1) (start .args .numbers .now) same, written-10 _ _ _ _ read (start .pre .0) (start .pre .1) (start .args .numbers .now) same _ (c .before .before .put-silences .ensures))
+    (accepted-10 _ _ _ _ read (start .pre .0) (start .pre .1) (start .args .numbers .now) (omega (arith, same)), written-10 _ _ _ _ read (start .pre .0) (start .pre .1) (start .args .numbers .now) (omega (arith, same)) _ (c .before .before .put-silences .ensures))
 
 pub answer-tracks-spec : {M : Type 1} → statement M
 answer-tracks-spec = tie.close (tie.spec slice-aggregate-read-tables read-tables-requires array-read-if1 returns slice-aggregate-put-silences put-silences-requires same-length returns-2)
