@@ -1,17 +1,15 @@
 -- The amplitudes of a level that moves from one value to another in a chunk.
-use mathlib.Core.Bool.{Bool, not, cond}
+use mathlib.Core.Bool.{cond}
+use mathlib.Core.Logic.{_⊎_}
 use mathlib.Core.List.{List}
-use Prim.Native.Nat.{ℕ, _+_, _-_}
-use lib.Dec.{leb}
+use Prim.Native.Nat.{ℕ, _≤_, _<_}
+use lib.Dec.{T, leb}
 use lib.ListN.{getD}
-use lib.Ieee.{Float, nan, binary32}
+use lib.Ieee.{Float, nan, binary32, le}
 use Rattle.laws.specs.Loop.{changed}
-use Rattle.laws.specs.Count.{counted}
 use Rattle.laws.specs.Interpolate.{interpolate}
 use Rattle.decibels.specs.declared.decibels.Decibels.{Decibels}
-use Rattle.decibels.specs.declared.segment.Segment.{Segment}
 use Rattle.decibels.specs.Decibels.{amplitude}
-use Rattle.decibels.specs.Segment.{contains}
 
 -- the value at frame i, read at part i of the chunk
 unfoldable pub valueAt : Decibels → Decibels → List Float → ℕ → Float
@@ -29,10 +27,6 @@ withAmplitudes before after parts n factors = changed (amplitudeAt before after 
 abbrev pub withRun : Decibels → Decibels → List Float → ℕ → ℕ → List Float → List Float
 withRun before after parts first to factors = changed (λ i x. cond (leb first i) (amplitudeAt before after parts i x) x) to factors
 
--- frame i lies outside a segment of the gain table
-unfoldable pub isOutside : Decibels → Decibels → List Float → Segment → ℕ → Bool
-isOutside before after parts segment i = not (contains segment (valueAt before after parts i))
-
--- how many of the frames from `first` up to `to` do
-unfoldable pub outside : Decibels → Decibels → List Float → Segment → ℕ → ℕ → ℕ
-outside before after parts segment first to = counted (λ j. isOutside before after parts segment (first + j)) (to - first)
+-- over the first n frames the values never fall, or never rise
+abbrev pub Monotone : Decibels → Decibels → List Float → ℕ → Type 0
+Monotone before after parts n = ((i j : ℕ) → i ≤ j → j < n → T (le (valueAt before after parts i) (valueAt before after parts j))) ⊎ ((i j : ℕ) → i ≤ j → j < n → T (le (valueAt before after parts j) (valueAt before after parts i)))

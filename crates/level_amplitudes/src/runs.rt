@@ -1,15 +1,17 @@
-// A moving level's amplitudes. Most runs of frames lie inside one segment of the gain table, and there
-// nothing is tested and nothing looked up, so that the loop vectorises.
+// A moving level's amplitudes. Most chunks, and most runs of frames, lie inside one segment of the gain
+// table, and there nothing is tested and nothing looked up, so that the loop vectorises. Within a chunk
+// a level never turns: a segment that holds two frames holds all between them.
 ghost use mathlib.Core.Path.{_≡_};
+ghost use mathlib.Core.Bool.{_&&_, cond};
 ghost use Prim.Native.Nat.{ℕ, _≤_, _<_};
 ghost use lib.Dec.{T};
 ghost use lib.Ieee.{binary32};
 ghost use Rattle.limits.specs.Limits.{chunkFramesMost};
 ghost use Rattle.gain_table.specs.GainTable.{IsGainTable};
 ghost use Rattle.decibels.specs.Decibels.{admitted};
-ghost use Rattle.decibels.specs.Segment.{IsSegment};
+ghost use Rattle.decibels.specs.Segment.{IsSegment, contains};
 ghost use Rattle.laws.specs.Interpolate.{interpolate};
-ghost use Rattle.level_amplitudes.specs.Amplitudes.{valueAt, withAmplitudes, withRun, outside};
+ghost use Rattle.level_amplitudes.specs.Amplitudes.{valueAt, withAmplitudes, withRun, Monotone};
 use decibels::Decibels;
 use decibels::Segment;
 use decibels::segment_of;
@@ -21,8 +23,8 @@ pub type Parts = [f32; CHUNK_FRAMES];
 
 pub type Factors = [f32; CHUNK_FRAMES];
 
-// How many frames are tried at once: a segment is a sixteenth of a decibel, which a fade of seconds
-// takes hundreds of frames to cross.
+// How many frames are tried at once where a chunk crosses segments: one is a sixteenth of a decibel,
+// which a fade of seconds takes hundreds of frames to cross.
 const RUN: usize = 32;
 
 // A value between two, as kira's `Tweenable` has it.
@@ -32,28 +34,14 @@ fn value_by(before: Decibels, after: Decibels, part: f32) -> Decibels
     Decibels(before.0 + (after.0 - before.0) * part)
 }
 
-// How many of the frames from `first` up to `to` lie outside the segment. They are counted, since a
-// flag would keep the loop from vectorising.
-fn outside(
-    before: Decibels,
-    after: Decibels,
-    parts: &Parts,
-    segment: Segment,
-    first: usize,
-    to: usize,
-) -> u32
-    requires { ⌜ (first ≤ to) × (to ≤ chunkFramesMost) ⌝ }
-    ensures { λ r. ⌜ r ≡ outside before after (now (parts .entry)) segment first to ⌝ }
+// Whether a segment holds both ends of a run.
+fn holds_both(segment: Segment, start: Decibels, end: Decibels) -> bool
+    ensures { λ r. ⌜ r ≡ (contains segment (start .0) && contains segment (end .0)) ⌝ }
 {
-    let mut count = 0u32;
-    let mut i = first;
-    while i < to {
-        let value = value_by(before, after, parts[i]);
-        let more = if segment.holds(value) { 0u32 } else { 1u32 };
-        count += more;
-        i += 1;
+    if segment.holds(start) {
+        return segment.holds(end);
     }
-    count
+    false
 }
 
 // The factors of frames from `first` up to `to` that all lie inside the segment.
@@ -68,7 +56,7 @@ fn set_inside(
 )
     requires { ⌜ (first ≤ to) × (to ≤ chunkFramesMost) ⌝ }
     requires { ⌜ IsSegment segment ⌝ }
-    requires { ⌜ outside before after (now parts) segment first to ≡ 0 ⌝ }
+    requires { ⌜ ((i : ℕ) → first ≤ i → i < to → T (contains segment (valueAt before after (now parts) i))) ⌝ }
     ensures { λ _. ⌜ now (factors .exit) ≡ withRun before after (now (parts .entry)) first to (now (factors .entry)) ⌝ }
 {
     let mut i = first;
@@ -104,6 +92,33 @@ fn set_each(
     }
 }
 
+// The same where one segment holds the run's two ends, and so the whole run; says whether it does.
+fn set_if_inside(
+    before: Decibels,
+    after: Decibels,
+    parts: &Parts,
+    table: &GainTable,
+    first: usize,
+    to: usize,
+    factors: &mut Factors,
+) -> bool
+    requires { ⌜ IsGainTable (now table) ⌝ }
+    requires { ⌜ (first < to) × (to ≤ chunkFramesMost) ⌝ }
+    requires { ⌜ ((i : ℕ) → i < to → T (admitted (valueAt before after (now parts) i))) ⌝ }
+    requires { ⌜ Monotone before after (now parts) to ⌝ }
+    ensures { λ r. ⌜ now (factors .exit) ≡ cond r (withRun before after (now (parts .entry)) first to (now (factors .entry))) (now (factors .entry)) ⌝ }
+{
+    let last = to - 1;
+    let start = value_by(before, after, parts[first]);
+    let end = value_by(before, after, parts[last]);
+    let segment = segment_of(start, table);
+    if holds_both(segment, start, end) {
+        set_inside(before, after, parts, segment, first, to, factors);
+        return true;
+    }
+    false
+}
+
 // A run of frames.
 fn set_run(
     before: Decibels,
@@ -117,11 +132,10 @@ fn set_run(
     requires { ⌜ IsGainTable (now table) ⌝ }
     requires { ⌜ (first < to) × (to ≤ chunkFramesMost) ⌝ }
     requires { ⌜ ((i : ℕ) → i < to → T (admitted (valueAt before after (now parts) i))) ⌝ }
+    requires { ⌜ Monotone before after (now parts) to ⌝ }
     ensures { λ _. ⌜ now (factors .exit) ≡ withRun before after (now (parts .entry)) first to (now (factors .entry)) ⌝ }
 {
-    let segment = segment_of(value_by(before, after, parts[first]), table);
-    if outside(before, after, parts, segment, first, to) == 0 {
-        set_inside(before, after, parts, segment, first, to, factors);
+    if set_if_inside(before, after, parts, table, first, to, factors) {
         return;
     }
     set_each(before, after, parts, table, first, to, factors);
@@ -138,7 +152,31 @@ fn run_end(first: usize, frames: usize) -> usize
     frames
 }
 
-// The amplitudes of a chunk's frames, of a level that moves from `before` to `after` in it.
+// The frames of a chunk, run by run.
+fn set_runs(
+    before: Decibels,
+    after: Decibels,
+    frames: usize,
+    parts: &Parts,
+    table: &GainTable,
+    factors: &mut Factors,
+)
+    requires { ⌜ IsGainTable (now table) ⌝ }
+    requires { ⌜ frames ≤ chunkFramesMost ⌝ }
+    requires { ⌜ ((i : ℕ) → i < frames → T (admitted (valueAt before after (now parts) i))) ⌝ }
+    requires { ⌜ Monotone before after (now parts) frames ⌝ }
+    ensures { λ _. ⌜ now (factors .exit) ≡ withAmplitudes before after (now (parts .entry)) frames (now (factors .entry)) ⌝ }
+{
+    let mut first = 0;
+    while first < frames {
+        let to = run_end(first, frames);
+        set_run(before, after, parts, table, first, to, factors);
+        first = to;
+    }
+}
+
+// The amplitudes of a chunk's frames, of a level that moves from `before` to `after` in it. The whole
+// chunk is tried first: most of those of a fade of seconds lie inside one segment.
 pub fn amplitudes(
     before: Decibels,
     after: Decibels,
@@ -150,12 +188,14 @@ pub fn amplitudes(
     requires { ⌜ IsGainTable (now table) ⌝ }
     requires { ⌜ frames ≤ chunkFramesMost ⌝ }
     requires { ⌜ ((i : ℕ) → i < frames → T (admitted (valueAt before after (now parts) i))) ⌝ }
+    requires { ⌜ Monotone before after (now parts) frames ⌝ }
     ensures { λ _. ⌜ now (factors .exit) ≡ withAmplitudes before after (now (parts .entry)) frames (now (factors .entry)) ⌝ }
 {
-    let mut first = 0;
-    while first < frames {
-        let to = run_end(first, frames);
-        set_run(before, after, parts, table, first, to, factors);
-        first = to;
+    if frames == 0 {
+        return;
     }
+    if set_if_inside(before, after, parts, table, 0, frames, factors) {
+        return;
+    }
+    set_runs(before, after, frames, parts, table, factors);
 }

@@ -1,20 +1,20 @@
 -- What mixing a chunk reads: the lines, and every level before the chunk and at its end.
-use mathlib.Core.Path.{_≡_, refl, sym, ap, ap₂, _∙_, subst}
+use mathlib.Core.Path.{_≡_, refl, sym, ap, ap₂, _∙_, subst, subst₂}
 use mathlib.Core.Bool.{false, true}
 use mathlib.Core.List.{List}
 use Prim.Native.Nat.{ℕ, _+_, _≤_, _<_, suc, _^_}
 use lib.IntN.{pos}
 use lib.ListN.{getD, length, replicate, length-replicate}
-use lib.Ieee.{Float, nan, binary32, binary64, div, eq, ofInt, prec, sub, inFloat}
+use lib.Ieee.{Float, nan, binary32, binary64, div, eq, le, ofInt, prec, sub, inFloat}
 use mathlib.Core.Logic.{inl, inr}
-use native.Mathlib.Nat.{lt-of-le-of-lt, le-trans, le-of-eq, eq-zero-or-pos}
+use native.Mathlib.Nat.{lt-of-le-of-lt, le-trans, le-of-eq, le-of-lt, eq-zero-or-pos}
 use native.Mathlib.Numerals.{add-one}
 use native.Mathlib.Omega.{arith}
 use lib.Dec.{T, le→leb, lit<, lit≤}
 use lib.Ieee.Scale.{finite}
 use Rattle.decibels.specs.declared.decibels.Amplitude.{Amplitude}
 use Rattle.decibels.specs.Decibels.{amplitude, admitted}
-use Rattle.laws.proofs.laws.Amount.{InUnit, place-amount}
+use Rattle.laws.proofs.laws.Amount.{InUnit, place-amount, place-rises}
 use Rattle.rounding.specs.Narrow.{narrowed}
 use Rattle.tween.specs.Tweenable.{interpolated}
 use Rattle.limits.specs.Limits.{chunkFramesMost}
@@ -25,12 +25,14 @@ use Rattle.laws.specs.Float.{one}
 use Rattle.laws.proofs.laws.Float.{zero-of}
 use Rattle.laws.specs.FloatOrder.{Number, magnitude, plus, minus}
 use Rattle.laws.proofs.laws.FloatOrder.{le→units, units→le, eq→units, number-unique, zero-is}
+use Rattle.laws.specs.FloatRound.{integer}
+use Rattle.laws.proofs.laws.FloatRound.{below-or-not}
 use Rattle.laws.specs.Interpolate.{interpolate}
-use Rattle.laws.proofs.laws.Interpolate.{range-number, sub-in-range, never-above-start, never-below-start}
+use Rattle.laws.proofs.laws.Interpolate.{range-number, sub-in-range, never-above-start, never-below-start, interpolate-rises, interpolate-falls}
 use Rattle.laws.proofs.laws.DecibelRange.{value→read, read-number, value-read, integer-pos}
-use Rattle.rounding.proofs.laws.Narrow.{narrowed-unit}
+use Rattle.rounding.proofs.laws.Narrow.{narrowed-unit, narrowed-mono}
 use Rattle.decibels.proofs.laws.Decibels.{amplitude-unity, read-admitted}
-use Rattle.level_amplitudes.specs.Amplitudes.{valueAt, amplitudeAt, withAmplitudes}
+use Rattle.level_amplitudes.specs.Amplitudes.{valueAt, amplitudeAt, withAmplitudes, Monotone}
 use Rattle.chunk.specs.Chunk.{amountAt, levelAmplitude, isSteady, steadyAmplitude, partAt, withFactors, partsOf, LevelInRange}
 
 -- ---- what mixing asks of a chunk
@@ -50,12 +52,26 @@ pub frames-in-float : (n : ℕ) → n ≤ chunkFramesMost → T (inFloat binary6
 unfolding inFloat
 frames-in-float n h = le→leb n (2 ^ prec binary64) (le-trans h (lit≤ tt))
 
-pub amount-is : (i n : ℕ) → i < n → n ≤ chunkFramesMost → IsAmount (amountAt i n)
+amount-place : (i n : ℕ) → amountAt i n ≡ div binary64 (integer binary64 false (suc i)) (integer binary64 false n)
 unfolding amountAt
-amount-is i n h k =
-    subst (InUnit binary64)
-    (sym (ap₂ (div binary64) (ap (λ (j : ℕ). ofInt binary64 (pos j)) (add-one i) ∙ integer-pos binary64 (suc i)) (integer-pos binary64 n)))
-    (place-amount binary64 i n h (lt-of-le-of-lt k (lit< tt)))
+amount-place i n = ap₂ (div binary64) (ap (λ (j : ℕ). ofInt binary64 (pos j)) (add-one i) ∙ integer-pos binary64 (suc i)) (integer-pos binary64 n)
+
+pub amount-is : (i n : ℕ) → i < n → n ≤ chunkFramesMost → IsAmount (amountAt i n)
+amount-is i n h k = subst (InUnit binary64) (sym (amount-place i n)) (place-amount binary64 i n h (lt-of-le-of-lt k (lit< tt)))
+
+amount-rises : (i j n : ℕ) → i ≤ j → j < n → n ≤ chunkFramesMost → T (le (amountAt i n) (amountAt j n))
+amount-rises i j n h k l = subst₂ (λ (x y : Float). T (le x y)) (sym (amount-place i n)) (sym (amount-place j n)) (place-rises binary64 i j n h k (lt-of-le-of-lt l (lit< tt)))
+
+before-number : (l : Level) → LevelInRange l → Number binary32 (l .before .0)
+before-number l h = read-number (l .before .0) (value→read (l .before .0) (h .before))
+
+now-number : (l : Level) → LevelInRange l → Number binary32 (l .now .0)
+now-number l h = read-number (l .now .0) (value→read (l .now .0) (h .now))
+
+difference-finite : (l : Level) → LevelInRange l → T (finite (sub binary32 (l .now .0) (l .before .0)))
+difference-finite l h =
+    let d = sub binary32 (l .now .0) (l .before .0) in
+    range-number binary32 116 116 d (lit< tt) (lit< tt) (sub-in-range binary32 97 19 (l .before .0) (l .now .0) (lit< tt) (h .before) (h .now)) .is-finite
 
 pub now-admitted : (l : Level) → LevelInRange l → T (admitted (l .now .0))
 now-admitted l h = read-admitted (l .now .0) (value→read (l .now .0) (h .now))
@@ -94,6 +110,48 @@ module _ (n i : ℕ) (parts : List Float) (P : parts ≡ partsOf n) (short : n �
   unfolding amplitudeAt valueAt levelAmplitude interpolated partAt
   parts-amplitude l x = ap (λ (part : Float). amplitude (interpolate binary32 (l .before .0) (l .now .0) part)) (parts-at n i P short h)
 
+-- ---- a level never turns within a chunk
+
+module _ (n : ℕ) (parts : List Float) (P : parts ≡ partsOf n) (short : n ≤ chunkFramesMost) where
+  parts-rise : (i j : ℕ) → i ≤ j → j < n → T (le (getD parts i nan) (getD parts j nan))
+  unfolding partAt
+  parts-rise i j h k =
+      subst₂ (λ (x y : Float). T (le x y)) (sym (parts-at n i P short (lt-of-le-of-lt h k))) (sym (parts-at n j P short k)) (narrowed-mono (amountAt i n) (amountAt j n) (amount-rises i j n h k short))
+
+  module _ (l : Level) (r : LevelInRange l) where
+    unit : (i : ℕ) → i < n → InUnit binary32 (getD parts i nan)
+    unit i k = part-unit (getD parts i nan) (parts-is n i parts P short k)
+
+    value-number : (i : ℕ) → i < n → Number binary32 (interpolate binary32 (l .before .0) (l .now .0) (getD parts i nan))
+    value-number i k =
+        let t = getD parts i nan in
+        read-number (interpolate binary32 (l .before .0) (l .now .0) t) (value-read (l .before .0) (l .now .0) t (unit i k) (r .before) (r .now))
+
+    rises : T (le (l .before .0) (l .now .0)) → (i j : ℕ) → i ≤ j → j < n → T (le (valueAt (l .before) (l .now) parts i) (valueAt (l .before) (l .now) parts j))
+    unfolding valueAt
+    rises up i j h k =
+        let g = lt-of-le-of-lt h k in
+        interpolate-rises binary32 (l .before .0) (l .now .0) (before-number l r) (now-number l r) (difference-finite l r) (getD parts i nan) (getD parts j nan) (unit i g) (unit j k) (parts-rise i j h k) (value-number i g) (value-number j k) up
+
+    falls : T (le (l .now .0) (l .before .0)) → (i j : ℕ) → i ≤ j → j < n → T (le (valueAt (l .before) (l .now) parts j) (valueAt (l .before) (l .now) parts i))
+    unfolding valueAt
+    falls down i j h k =
+        let g = lt-of-le-of-lt h k in
+        interpolate-falls binary32 (l .before .0) (l .now .0) (before-number l r) (now-number l r) (difference-finite l r) (getD parts i nan) (getD parts j nan) (unit i g) (unit j k) (parts-rise i j h k) (value-number i g) (value-number j k) down
+
+    pub parts-monotone : Monotone (l .before) (l .now) parts n
+    parts-monotone =
+        let a = l .before .0 in
+        let b = l .now .0 in
+        let A = before-number l r in
+        let B = now-number l r in
+        elim (below-or-not (plus binary32 a + minus binary32 b) (plus binary32 b + minus binary32 a)) [
+          | inl h ↦ inl (rises (units→le binary32 a b A B (le-of-lt h)))
+          | inr h ↦ inr (falls (units→le binary32 b a B A h))
+        ]
+
+-- ---- the factors of its frames
+
 pub factors-are : (l : Level) (n : ℕ) (parts factors : List Float) → parts ≡ partsOf n → n ≤ chunkFramesMost → withAmplitudes (l .before) (l .now) parts n factors ≡ withFactors l n factors
 factors-are l n parts factors P short =
     changed-cong (amplitudeAt (l .before) (l .now) parts) (λ i x. levelAmplitude l (amountAt i n) .0) n factors nan (λ k h _. parts-amplitude n k parts P short h l (getD factors k nan))
@@ -131,10 +189,10 @@ module _ (l : Level) (t : Float) (s : isSteady l ≡ true) (h : LevelInRange l) 
   read = interpolate binary32 a b t
 
   a-number : Number binary32 a
-  a-number = read-number a (value→read a (h .before))
+  a-number = before-number l h
 
   b-number : Number binary32 b
-  b-number = read-number b (value→read b (h .now))
+  b-number = now-number l h
 
   read-is : Number binary32 read
   read-is = read-number read (value-read a b t U (h .before) (h .now))
@@ -145,7 +203,7 @@ module _ (l : Level) (t : Float) (s : isSteady l ≡ true) (h : LevelInRange l) 
 
   equal : plus binary32 read + minus binary32 b ≡ plus binary32 b + minus binary32 read
   equal =
-      let D : T (finite (sub binary32 b a)) = range-number binary32 116 116 (sub binary32 b a) (lit< tt) (lit< tt) (sub-in-range binary32 97 19 a b (lit< tt) (h .before) (h .now)) .is-finite in
+      let D = difference-finite l h in
       through (plus binary32 a) (minus binary32 a) (plus binary32 b) (minus binary32 b) (plus binary32 read) (minus binary32 read) same
       (le→units binary32 read a read-is a-number (never-above-start binary32 a b a-number b-number D t U (units→le binary32 b a b-number a-number (le-of-eq (sym same)))))
       (le→units binary32 a read a-number read-is (never-below-start binary32 a b a-number b-number D t U (units→le binary32 a b a-number b-number (le-of-eq same))))

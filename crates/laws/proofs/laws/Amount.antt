@@ -17,7 +17,7 @@ use lib.Ieee.Positive.{positive, positive-of-value, first-pos}
 use Rattle.laws.proofs.laws.Arithmetic.{or-le, one-digit}
 use Rattle.laws.specs.FloatOrder.{Number, plus, minus}
 use Rattle.laws.proofs.laws.FloatOrder.{OnGrid, lt→le, le→units, units→lt}
-use Rattle.laws.proofs.laws.FloatRound.{digits-below-low, at-integer, at-grid, div-least}
+use Rattle.laws.proofs.laws.FloatRound.{rounded-le, div-rounded, digits-below-low, at-integer, at-grid, div-least}
 use Rattle.laws.specs.FloatRound.{integer}
 use Rattle.laws.specs.Float.{posZero, half, one, two}
 use Rattle.laws.proofs.laws.FloatLiteral.{round-posZero, round-half, round-one, round-two}
@@ -265,6 +265,28 @@ place-amount f i n h k =
     div-amount f (integer f false (suc i)) (integer f false n) (round-unsigned f (suc i) 1)
     (positive-of-value (integer f false n) n 1 (round-whole f false n (le-of-lt k)) (lt-of-le-of-lt zero-le h))
     (round-mono f (suc i) 1 n 1 (zero-lt-suc 0) (zero-lt-suc 0) (mul-le-mul-right 1 h))
+
+-- the places of a chunk's frames rise
+pub place-rises : (f : Format) (i j n : ℕ) → i ≤ j → j < n → n < 2 ^ prec f → T (le (div f (integer f false (suc i)) (integer f false n)) (div f (integer f false (suc j)) (integer f false n)))
+place-rises f i j n h k l =
+    let U = 2 ^ low f in
+    let x = integer f false (suc i) in
+    let y = integer f false (suc j) in
+    let z = integer f false n in
+    let X = at-integer f false (suc i) (lt-of-le-of-lt (lt-of-le-of-lt h k) l) in
+    let Y = at-integer f false (suc j) (lt-of-le-of-lt k l) in
+    let Z = at-integer f false n l in
+    let P : 0 < plus f z = subst (λ (m : ℕ). 0 < m) (sym (Z .1)) (mul-pos (lt-of-le-of-lt zero-le k) (pow-pos (low f))) in
+    rounded-le f (div f x z) (div f y z) (plus f x) (minus f x) (plus f y) (minus f y) (plus f z) P
+    (amount-number f (div f x z) (place-amount f i n (lt-of-le-of-lt h k) l)) (amount-number f (div f y z) (place-amount f j n k l))
+    (div-rounded f x z (X .0) (Z .0) P) (div-rounded f y z (Y .0) (Z .0) P)
+    (rise (plus f x) (minus f x) (plus f y) (minus f y) (suc i * U) (suc j * U) (X .1) (X .2) (Y .1) (Y .2) (mul-le-mul-right U (next i j h)))
+  where
+    next : (i j : ℕ) → i ≤ j → suc i ≤ suc j
+    next i j h = omega arith
+
+    rise : (px mx py my a b : ℕ) → px ≡ a → mx ≡ 0 → py ≡ b → my ≡ 0 → a ≤ b → px + my ≤ py + mx
+    rise px mx py my a b i j k l h = omega arith
 
 unit-on-grid : (f : Format) → OnGrid f 1
 unit-on-grid f =

@@ -1,8 +1,9 @@
 -- Small facts of whole numbers and of tests that several crates use. Assumes nothing.
-use mathlib.Core.Path.{_≡_, refl, sym, ap₂, _∙_}
+use mathlib.Core.Path.{_≡_, refl, sym, ap, ap₂, _∙_}
 use mathlib.Core.Bool.{Bool, true, false, _&&_, _||_}
-use Prim.Native.Nat.{ℕ, _-_, _*_, _^_, _≤_, _<_}
-use native.Mathlib.Nat.{le-of-lt, le-of-eq, le-of-suc-le-suc, lt-of-not-le, not-le-of-lt, mul-comm, mul-sub, eq-or-lt-of-le}
+use Prim.Native.Nat.{ℕ, _+_, _-_, _*_, _^_, _≤_, _<_}
+use native.Mathlib.Nat.{le-of-lt, le-of-eq, le-of-suc-le-suc, lt-of-not-le, not-le-of-lt, mul-comm, mul-add, add-mul, mul-sub, eq-or-lt-of-le, le-dest}
+use native.Mathlib.Omega.{arith}
 use mathlib.Core.Logic.{inl, inr}
 use lib.Dec.{T, ltb, eqb, ltb→lt, lt→ltb, eqb→eq, lit<}
 use lib.Pow.{pow-lt, pow-mono}
@@ -25,6 +26,22 @@ one-digit binary64 = lit< tt
 
 pub minus-times : (a b c : ℕ) → (a - b) * c ≡ a * c - b * c
 minus-times a b c = mul-comm (a - b) c ∙ mul-sub c a b ∙ ap₂ (λ (x y : ℕ). x - y) (mul-comm c a) (mul-comm c b)
+
+-- ---- products
+
+-- a ≤ b and c ≤ d
+pub rearranged : (a b c d : ℕ) → a ≤ b → c ≤ d → b * c + a * d ≤ a * c + b * d
+rearranged a b c d h k =
+    let l = le-dest h in
+    let m = le-dest k in
+    go a (l .0) b c (m .0) d (sym (l .1)) (sym (m .1))
+  where
+    go : (a k b c l d : ℕ) → b ≡ a + k → d ≡ c + l → b * c + a * d ≤ a * c + b * d
+    go a k b c l d p q =
+        let x : b * c ≡ a * c + k * c = ap (λ (z : ℕ). z * c) p ∙ add-mul a k c in
+        let y : b * d ≡ a * d + k * d = ap (λ (z : ℕ). z * d) p ∙ add-mul a k d in
+        let z : k * d ≡ k * c + k * l = ap (λ (z : ℕ). k * z) q ∙ mul-add k c l in
+        omega arith
 
 -- ---- tests
 

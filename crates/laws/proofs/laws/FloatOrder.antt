@@ -30,7 +30,7 @@ pub record OnGrid (f : Format) (w : ℕ) : Type 0 where
 
 -- ---- a finite value of the format is a whole number of units, and that number lies on the grid
 
-zero-on-grid : (f : Format) → OnGrid f 0
+pub zero-on-grid : (f : Format) → OnGrid f 0
 zero-on-grid f = record { digits = 0; place = 0; is = refl; few = pow-pos (prec f); under = pow-pos (low f + suc (emax f)) }
 
 -- 2 ^ e in units, for an exponent that the format has: 2 ^ place, and place is e + low f

@@ -9,14 +9,15 @@ use mathlib.Core.Bool.{Bool, true, false, not, cond}
 use lib.IntN.{ℤ}
 use lib.Dec.{T, lit≤, ltb, eqb, ltb→lt, nltb→le, eqb→eq}
 use lib.Pow.{pow-add, pow-pos, pow-mono}
-use lib.Ieee.{Float, nan, inf, fin, Format, binary32, binary64, prec, emax, low, up, down, unlike, odd, units, round, neg, sum, add, sub, mul, div, le, fits}
-use lib.Ieee.Fits.{down-pos, round-is, round-fits, reach, add-fits, sub-fits, mul-fits, div-fits}
+use lib.Ieee.{Float, nan, inf, fin, Format, binary32, binary64, prec, emax, low, up, down, unlike, odd, units, round, neg, sum, add, sub, mul, div, lt, le, fits}
+use lib.Ieee.Fits.{and-r, down-pos, round-is, round-fits, reach, add-fits, sub-fits, mul-fits, div-fits}
 use lib.Ieee.Exact.{HasValue, units-val, round-exact}
 use lib.Ieee.Order.{drop, kept, round-mono}
 use lib.Ieee.Scale.{finite, overflow, grid, round-same, round-under}
 use lib.Ieee.Positive.{first-pos}
+use Rattle.laws.proofs.laws.Arithmetic.{rearranged}
 use Rattle.laws.specs.FloatOrder.{Number, magnitude, plus, minus}
-use Rattle.laws.proofs.laws.FloatOrder.{OnGrid, magnitude-exact, plus-on-grid, minus-on-grid, one-sided, value-plus, value-minus, value-finite, neg-number, plus-neg, minus-neg, le→units, units→le, le-through, cross-left, cross-right}
+use Rattle.laws.proofs.laws.FloatOrder.{OnGrid, zero-on-grid, magnitude-exact, plus-on-grid, minus-on-grid, one-sided, value-plus, value-minus, value-finite, neg-number, plus-neg, minus-neg, le→units, units→le, lt→units, units→lt, le-through, cross-left, cross-right}
 use Rattle.laws.specs.FloatRound.{Between, integer}
 
 -- ---- definitions
@@ -209,6 +210,71 @@ module _ (f : Format) (x : Float) (p n c : ℕ) (v : Float) (C : 0 < c) (N : Num
       turned : (a b c d : ℕ) → d + a ≤ b + c → a + d ≤ c + b
       turned a b c d h = omega arith
 
+-- ---- two rounded fractions over one divisor stand in the order of the fractions
+
+grid-zero : (f : Format) (d c : ℕ) → 0 < c → d ≡ 0 → grid f d c ≡ 0
+grid-zero f d c C z = le-antisymm (grid-most f d c 0 C (zero-on-grid f) (le-of-eq (ap (λ (k : ℕ). k * 2 ^ low f) z ∙ zero-mul (2 ^ low f) ∙ sym (zero-mul c))) .1) zero-le
+
+-- a number that is ±d / c, rounded: its size in units
+record Sized (f : Format) (x : Float) (s : Bool) (d c : ℕ) : Type 0 where
+  under : grid f d c < overflow f
+  on-plus : plus f x ≡ cond s 0 (grid f d c)
+  on-minus : minus f x ≡ cond s (grid f d c) 0
+
+sized : (f : Format) (x : Float) (s : Bool) (d c : ℕ) → Number f x → x ≡ round f s d c → Sized f x s d c
+sized f x s d c N e = elim (below-or-not (grid f d c) (overflow f)) [
+  | inl k ↦ record { under = k; on-plus = ap (plus f) e ∙ round-plus f s d c k; on-minus = ap (minus f) e ∙ round-minus f s d c k }
+  | inr k ↦ absurd (subst (λ (z : Float). T (finite z)) (e ∙ round-over f s d c k) (N .is-finite))
+]
+
+module _ (f : Format) (x y : Float) (p n p' n' c : ℕ) (C : 0 < c) (N : Number f x) (M : Number f y) where
+  -- from their sizes
+  sizes-le : (s t : Bool) (d e : ℕ) → Sized f x s d c → Sized f y t e c → cond s 0 (grid f d c) + cond t (grid f e c) 0 ≤ cond t 0 (grid f e c) + cond s (grid f d c) 0 → T (le x y)
+  sizes-le s t d e X Y h =
+      units→le f x y N M (joined (plus f x) (minus f x) (plus f y) (minus f y) (cond s 0 (grid f d c)) (cond s (grid f d c) 0) (cond t 0 (grid f e c)) (cond t (grid f e c) 0) (X .on-plus) (X .on-minus) (Y .on-plus) (Y .on-minus) h)
+    where
+      joined : (px mx py my a b c d : ℕ) → px ≡ a → mx ≡ b → py ≡ c → my ≡ d → a + d ≤ c + b → px + my ≤ py + mx
+      joined px mx py my a b c d i j k l h = omega arith
+
+  grids-le : (d e : ℕ) → grid f d c < overflow f → grid f e c < overflow f → d ≤ e → grid f d c ≤ grid f e c
+  grids-le d e h k l = grids-of-le f d c e c h k (round-mono f d c e c C C (mul-le-mul-right c l))
+
+  pub rounded-le : Rounded f x p n c → Rounded f y p' n' c → p + n' ≤ p' + n → T (le x y)
+  rounded-le (upward d i j) (upward e k l) h =
+      let X = sized f x false d c N j in
+      let Y = sized f y false e c M l in
+      sizes-le false false d e X Y (both (grid f d c) (grid f e c) (grids-le d e (X .under) (Y .under) (less p n d p' n' e i k h)))
+    where
+      less : (p n d p' n' e : ℕ) → p ≡ n + d → p' ≡ n' + e → p + n' ≤ p' + n → d ≤ e
+      less p n d p' n' e i k h = omega arith
+
+      both : (a b : ℕ) → a ≤ b → a + 0 ≤ b + 0
+      both a b h = omega arith
+  rounded-le (upward d i j) (downward e k l) h =
+      let X = sized f x false d c N j in
+      let Y = sized f y true e c M l in
+      sizes-le false true d e X Y (none (grid f d c) (grid f e c) (grid-zero f d c C (first p n d p' n' e i k h)) (grid-zero f e c C (second p n d p' n' e i k h)))
+    where
+      first : (p n d p' n' e : ℕ) → p ≡ n + d → n' ≡ p' + e → p + n' ≤ p' + n → d ≡ 0
+      first p n d p' n' e i k h = omega arith
+
+      second : (p n d p' n' e : ℕ) → p ≡ n + d → n' ≡ p' + e → p + n' ≤ p' + n → e ≡ 0
+      second p n d p' n' e i k h = omega arith
+
+      none : (a b : ℕ) → a ≡ 0 → b ≡ 0 → a + b ≤ 0 + 0
+      none a b i j = omega arith
+  rounded-le (downward d i j) (upward e k l) h = sizes-le true false d e (sized f x true d c N j) (sized f y false e c M l) zero-le
+  rounded-le (downward d i j) (downward e k l) h =
+      let X = sized f x true d c N j in
+      let Y = sized f y true e c M l in
+      sizes-le true true d e X Y (both (grid f d c) (grid f e c) (grids-le e d (Y .under) (X .under) (less p n d p' n' e i k h)))
+    where
+      less : (p n d p' n' e : ℕ) → n ≡ p + d → n' ≡ p' + e → p + n' ≤ p' + n → e ≤ d
+      less p n d p' n' e i k h = omega arith
+
+      both : (a b : ℕ) → b ≤ a → 0 + b ≤ 0 + a
+      both a b h = omega arith
+
 -- ---- each operation's result is a rounded fraction
 
 -- the same fraction over another divisor
@@ -396,6 +462,67 @@ module _ (f : Format) (lo hi x : Float) (N : Number f lo) (M : Number f hi) (h :
   pub units-most : plus f x + minus f hi ≤ plus f hi + minus f x
   units-most = le→units f x hi number M (h .most)
 
+-- ---- what lies between two that lie inside bounds lies inside them
+
+-- nothing is below the one infinity, nothing above the other
+none-below : (lo : Float) → T (lt lo (inf true)) → ⊥
+unfolding lt
+none-below nan h = h
+none-below (inf s) h = and-r s false h
+none-below (fin s m e) h = h
+
+none-above : (hi : Float) → T (lt (inf false) hi) → ⊥
+unfolding lt
+none-above nan h = h
+none-above (inf s) h = h
+none-above (fin s m e) h = h
+
+inside-finite : (lo hi x : Float) → T (lt lo x) → T (lt x hi) → T (finite x)
+inside-finite lo hi nan a b = unfold lt in b
+inside-finite lo hi (inf true) a b = none-below lo a
+inside-finite lo hi (inf false) a b = none-above hi b
+inside-finite lo hi (fin s m e) a b = tt
+
+-- the bounds may be infinite
+lt-le : (f : Format) (x y z : Float) → T (fits f x) → Number f y → Number f z → T (lt x y) → T (le y z) → T (lt x z)
+lt-le f nan y z F M K h k = absurd (unfold lt in h)
+lt-le f (inf s) nan z F M K h k = absurd (M .is-finite)
+lt-le f (inf s) (inf t) z F M K h k = absurd (M .is-finite)
+lt-le f (inf s) (fin t n d) nan F M K h k = absurd (K .is-finite)
+lt-le f (inf s) (fin t n d) (inf u) F M K h k = absurd (K .is-finite)
+lt-le f (inf s) (fin t n d) (fin u i j) F M K h k = unfold lt in h
+lt-le f (fin s m e) y z F M K h k =
+    let x = fin s m e in
+    let N : Number f x = record { held = F; is-finite = tt } in
+    units→lt f x z N K (through (plus f x) (minus f x) (plus f y) (minus f y) (plus f z) (minus f z) (lt→units f x y N M h) (le→units f y z M K k))
+  where
+    through : (px mx py my pz mz : ℕ) → px + my < py + mx → py + mz ≤ pz + my → px + mz < pz + mx
+    through px mx py my pz mz h k = omega arith
+
+le-lt : (f : Format) (x y z : Float) → Number f x → Number f y → T (fits f z) → T (le x y) → T (lt y z) → T (lt x z)
+le-lt f nan y z N M F h k = absurd (N .is-finite)
+le-lt f (inf s) y z N M F h k = absurd (N .is-finite)
+le-lt f (fin s m e) nan z N M F h k = absurd (M .is-finite)
+le-lt f (fin s m e) (inf t) z N M F h k = absurd (M .is-finite)
+le-lt f (fin s m e) (fin t n d) nan N M F h k = unfold lt in k
+le-lt f (fin s m e) (fin t n d) (inf u) N M F h k = unfold lt in k
+le-lt f (fin s m e) (fin t n d) (fin u i j) N M F h k =
+    let x = fin s m e in
+    let y = fin t n d in
+    let z = fin u i j in
+    let K : Number f z = record { held = F; is-finite = tt } in
+    units→lt f x z N K (through (plus f x) (minus f x) (plus f y) (minus f y) (plus f z) (minus f z) (le→units f x y N M h) (lt→units f y z M K k))
+  where
+    through : (px mx py my pz mz : ℕ) → px + my ≤ py + mx → py + mz < pz + my → px + mz < pz + mx
+    through px mx py my pz mz h k = omega arith
+
+pub inside-bounds : (f : Format) (lo hi x y z : Float) → T (fits f lo) → T (fits f hi) → T (fits f x) → T (fits f z) → T (lt lo x) → T (lt x hi) → T (lt lo z) → T (lt z hi) → Between f x z y → T (lt lo y) × T (lt y hi)
+inside-bounds f lo hi x y z L H X Z a b c d B =
+    let N : Number f x = record { held = X; is-finite = inside-finite lo hi x a b } in
+    let M : Number f z = record { held = Z; is-finite = inside-finite lo hi z c d } in
+    let K : Number f y = number f x z y N M B in
+    (lt-le f lo x y L N K a (B .least), le-lt f y z hi K M H (B .most) d)
+
 pub units-between : (f : Format) (lo hi x : Float) → Number f lo → Number f hi → Number f x → plus f lo + minus f x ≤ plus f x + minus f lo → plus f x + minus f hi ≤ plus f hi + minus f x
     → Between f lo hi x
 units-between f lo hi x N M K h k = record { held = K .held; least = units→le f lo x N K h; most = units→le f x hi K M k }
@@ -485,6 +612,34 @@ module _ (f : Format) (x y lo hi : Float) (N : Number f x) (M : Number f y) (K :
   pub div-between : 0 < plus f y → minus f x * 2 ^ low f + plus f lo * plus f y ≤ plus f x * 2 ^ low f + minus f lo * plus f y
       → plus f x * 2 ^ low f + minus f hi * plus f y ≤ minus f x * 2 ^ low f + plus f hi * plus f y → Between f lo hi (div f x y)
   div-between P h k = record { held = div-fits f x y; least = div-least f x y lo N M K P h; most = div-most f x y hi N M L P k }
+
+-- in its second operand a sum never falls, and a product with x rises or falls by the sign of x
+module _ (f : Format) (x y z : Float) (N : Number f x) (M : Number f y) (K : Number f z) (h : T (le y z)) where
+  pub add-mono : Number f (add f x y) → Number f (add f x z) → T (le (add f x y) (add f x z))
+  add-mono A B =
+      rounded-le f (add f x y) (add f x z) (plus f x + plus f y) (minus f x + minus f y) (plus f x + plus f z) (minus f x + minus f z) (2 ^ low f) (pow-pos (low f)) A B (add-rounded f x y N M) (add-rounded f x z N K)
+      (moved (plus f x) (minus f x) (plus f y) (minus f y) (plus f z) (minus f z) (le→units f y z M K h))
+    where
+      moved : (px mx py my pz mz : ℕ) → py + mz ≤ pz + my → px + py + (mx + mz) ≤ px + pz + (mx + my)
+      moved px mx py my pz mz h = omega arith
+
+  pub mul-rises : minus f x ≤ plus f x → Number f (mul f x y) → Number f (mul f x z) → T (le (mul f x y) (mul f x z))
+  mul-rises l A B =
+      rounded-le f (mul f x y) (mul f x z) (plus f x * plus f y + minus f x * minus f y) (plus f x * minus f y + minus f x * plus f y) (plus f x * plus f z + minus f x * minus f z) (plus f x * minus f z + minus f x * plus f z)
+      (2 ^ low f * 2 ^ low f) (mul-pos (pow-pos (low f)) (pow-pos (low f))) A B (mul-rounded f x y N M) (mul-rounded f x z N K)
+      (products (plus f x) (minus f x) (plus f y) (minus f y) (plus f z) (minus f z) (rearranged (minus f x) (plus f x) (plus f y + minus f z) (plus f z + minus f y) l (le→units f y z M K h)))
+    where
+      products : (px mx py my pz mz : ℕ) → px * (py + mz) + mx * (pz + my) ≤ mx * (py + mz) + px * (pz + my) → px * py + mx * my + (px * mz + mx * pz) ≤ px * pz + mx * mz + (px * my + mx * py)
+      products px mx py my pz mz h = omega arith
+
+  pub mul-falls : plus f x ≤ minus f x → Number f (mul f x y) → Number f (mul f x z) → T (le (mul f x z) (mul f x y))
+  mul-falls l A B =
+      rounded-le f (mul f x z) (mul f x y) (plus f x * plus f z + minus f x * minus f z) (plus f x * minus f z + minus f x * plus f z) (plus f x * plus f y + minus f x * minus f y) (plus f x * minus f y + minus f x * plus f y)
+      (2 ^ low f * 2 ^ low f) (mul-pos (pow-pos (low f)) (pow-pos (low f))) B A (mul-rounded f x z N K) (mul-rounded f x y N M)
+      (products (plus f x) (minus f x) (plus f y) (minus f y) (plus f z) (minus f z) (rearranged (plus f x) (minus f x) (plus f y + minus f z) (plus f z + minus f y) l (le→units f y z M K h)))
+    where
+      products : (px mx py my pz mz : ℕ) → mx * (py + mz) + px * (pz + my) ≤ px * (py + mz) + mx * (pz + my) → px * pz + mx * mz + (px * my + mx * py) ≤ px * py + mx * my + (px * mz + mx * pz)
+      products px mx py my pz mz h = omega arith
 
 -- ---- the numbers ±w units, for w on the grid
 

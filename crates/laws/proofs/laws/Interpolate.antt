@@ -1,10 +1,10 @@
 -- kira's interpolation of two floats, a + (b - a) * t, for an amount t from 0 to 1: where its result lies.
--- It is never above a where b ≤ a, and never below a where a ≤ b. Where b - a is exact it does not pass b either. Otherwise it passes b by a rounding at most: by less than 1, if
+-- It rises or falls with t, as b - a has it. It is never above a where b ≤ a, and never below a where a ≤ b. Where b - a is exact it does not pass b either. Otherwise it passes b by a rounding at most: by less than 1, if
 -- whole numbers bound a and b and the format holds the bounds' sum. At t = 1 it need not be b. Assumes nothing.
 use mathlib.Core.Path.{_≡_, refl, sym, ap, _∙_, subst}
 use mathlib.Core.Logic.{_⊎_, inl, inr}
 use Prim.Native.Nat.{ℕ, suc, _+_, _-_, _*_, _/_, _^_, _≤_, _<_, zero-le}
-use native.Mathlib.Nat.{le-refl, le-trans, le-of-eq, le-of-lt, le-add-right, le-add-left, lt-of-lt-of-le, lt-of-le-of-lt, zero-mul, mul-zero, mul-comm, mul-assoc, mul-right-comm, add-zero, zero-add, add-comm, add-mul, suc-mul, mul-add, mul-pos, mul-le-mul-right, div-mul-le-self, lt-div-mul-add, le-of-mul-le-mul-right, lt-of-mul-lt-mul-right, mul-lt-mul-of-pos-right, zero-lt-suc, add-suc, pow-suc, sub-add-cancel, sub-le, mul-sub, le-dest}
+use native.Mathlib.Nat.{le-refl, le-trans, le-of-eq, le-of-lt, le-add-right, le-add-left, lt-of-lt-of-le, lt-of-le-of-lt, zero-mul, mul-zero, mul-comm, mul-assoc, mul-right-comm, add-zero, zero-add, add-comm, add-mul, suc-mul, mul-pos, mul-le-mul-right, div-mul-le-self, lt-div-mul-add, le-of-mul-le-mul-right, lt-of-mul-lt-mul-right, mul-lt-mul-of-pos-right, zero-lt-suc, add-suc, pow-suc, sub-add-cancel, sub-le, mul-sub}
 use native.Mathlib.Omega.{arith}
 use mathlib.Core.Bool.{Bool, true, false, cond}
 use lib.Dec.{T}
@@ -12,10 +12,10 @@ use lib.Pow.{pow-add, pow-pos, shl-lt}
 use lib.Ieee.{Float, Format, prec, low, sub, mul, le}
 use lib.Ieee.Fits.{sub-fits}
 use lib.Ieee.Scale.{finite}
-use Rattle.laws.proofs.laws.Arithmetic.{exponent-lt}
+use Rattle.laws.proofs.laws.Arithmetic.{exponent-lt, rearranged}
 use Rattle.laws.specs.FloatOrder.{Number, plus, minus}
 use Rattle.laws.proofs.laws.FloatOrder.{OnGrid, le→units, units→le, minus-on-grid, one-sided}
-use Rattle.laws.proofs.laws.FloatRound.{below-or-not, digits-below-low, between-widens, at-integer, number, units-least, units-most, units-between, add-most, add-least, add-between, sub-most, sub-least, sub-between, sub-exact, mul-between}
+use Rattle.laws.proofs.laws.FloatRound.{below-or-not, digits-below-low, between-widens, at-integer, number, units-least, units-most, units-between, add-most, add-least, add-between, sub-most, sub-least, sub-between, sub-exact, mul-between, add-mono, mul-rises, mul-falls}
 use Rattle.laws.specs.FloatRound.{Between, integer}
 use Rattle.laws.proofs.laws.Amount.{InUnit, amount-number, amount-minus, amount-plus}
 use Rattle.laws.specs.Float.{posZero}
@@ -27,20 +27,6 @@ abbrev pub InRangeBelow : Format → ℕ → ℕ → Float → Type 0
 InRangeBelow f a b x = Between f (integer f true a) (integer f true b) x
 
 -- ---- the product with an amount lies between posZero and the other factor
-
--- a ≤ b and c ≤ d
-rearranged : (a b c d : ℕ) → a ≤ b → c ≤ d → b * c + a * d ≤ a * c + b * d
-rearranged a b c d h k =
-    let l = le-dest h in
-    let m = le-dest k in
-    go a (l .0) b c (m .0) d (sym (l .1)) (sym (m .1))
-  where
-    go : (a k b c l d : ℕ) → b ≡ a + k → d ≡ c + l → b * c + a * d ≤ a * c + b * d
-    go a k b c l d p q =
-        let x : b * c ≡ a * c + k * c = ap (λ (z : ℕ). z * c) p ∙ add-mul a k c in
-        let y : b * d ≡ a * d + k * d = ap (λ (z : ℕ). z * d) p ∙ add-mul a k d in
-        let z : k * d ≡ k * c + k * l = ap (λ (z : ℕ). k * z) q ∙ mul-add k c l in
-        omega arith
 
 -- d * t lies beyond posZero and short of d, where d is p - n or n - p with n ≤ p, and t = u - v with v = 0
 short : (p n u v U : ℕ) → v ≡ 0 → n ≤ p → u ≤ U → p * u + n * v + n * U ≤ p * v + n * u + p * U
@@ -138,6 +124,27 @@ module _ (f : Format) (a b : Float) (N : Number f a) (M : Number f b) (D : T (fi
       where
         keeps : (pa ma pm mm po mo : ℕ) → po ≡ 0 → mo ≡ 0 → po + mm ≤ pm + mo → ma + mm + pa ≤ pa + pm + ma
         keeps pa ma pm mm po mo y z h = omega arith
+
+  -- ---- at a part that is not less it lies as far or farther
+
+  module _ (t u : Float) (A : InUnit f t) (B : InUnit f u) (h : T (le t u)) (X : Number f (interpolate f a b t)) (Y : Number f (interpolate f a b u)) where
+    pub interpolate-rises : T (le a b) → T (le (interpolate f a b t) (interpolate f a b u))
+    unfolding interpolate
+    interpolate-rises l =
+        let o = at-posZero f in
+        let d = sub f b a in
+        let P : Number f (mul f d t) = number f posZero d (mul f d t) (o .0) difference (step-up t A l) in
+        let Q : Number f (mul f d u) = number f posZero d (mul f d u) (o .0) difference (step-up u B l) in
+        add-mono f a (mul f d t) (mul f d u) N P Q (mul-rises f d t u difference (amount-number f t A) (amount-number f u B) h (rises l) P Q) X Y
+
+    pub interpolate-falls : T (le b a) → T (le (interpolate f a b u) (interpolate f a b t))
+    unfolding interpolate
+    interpolate-falls l =
+        let o = at-posZero f in
+        let d = sub f b a in
+        let P : Number f (mul f d t) = number f d posZero (mul f d t) difference (o .0) (step-down t A l) in
+        let Q : Number f (mul f d u) = number f d posZero (mul f d u) difference (o .0) (step-down u B l) in
+        add-mono f a (mul f d u) (mul f d t) N Q P (mul-falls f d t u difference (amount-number f t A) (amount-number f u B) h (falls l) P Q) Y X
 
 -- ---- a start from -(p + 1) to q + 1 and a target from -p to q: the result stays from -(p + 1) to q + 1
 

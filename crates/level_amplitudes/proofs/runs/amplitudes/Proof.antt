@@ -1,48 +1,36 @@
--- `amplitudes` meets its contract. The invariant: the factors of the first `first` frames are set. Assumes nothing.
-use mathlib.Core.Path.{_≡_}
-use Prim.Native.Nat.{_-_, _≤_}
-use native.Mathlib.Nat.{le-trans, le-of-lt}
+-- `amplitudes` meets its contract. Assumes nothing.
+use Prim.Native.Nat.{zero-le}
 use native.Mathlib.Omega.{arith}
-use borrow.Author.Needs.{needs}
 use Rattle.level_amplitudes.specs.Amplitudes.{withAmplitudes}
-use Rattle.level_amplitudes.proofs.laws.Amplitudes.{withAmplitudes-none, withAmplitudes-run, withAmplitudes-end}
+use Rattle.level_amplitudes.proofs.laws.Amplitudes.{tried-set, tried-left, withAmplitudes-none, withAmplitudes-run, withAmplitudes-end}
 use Rattle.level_amplitudes.proofs.runs.amplitudes.Statement.{statement}
 use Rattle.level_amplitudes.proofs.runs.amplitudes.Tie as tie
 
-abbrev Inv-loop : tie.InvT-loop
-Inv-loop before after frames parts table factors₀ first₀ factors first = (first ≤ frames) × (factors ≡ withAmplitudes before after parts first factors₀)
-
-abbrev μ-loop : tie.MeasureT-loop
-μ-loop before after frames parts table factors₀ first₀ factors first = frames - first
-
-loop-holds : tie.Need-loop-holds Inv-loop μ-loop
-loop-holds c =
-    let args = c .args in
-    (search needs, withAmplitudes-none (args .before) (args .after) (args .parts .now) (args .factors .now))
-
-run-end-requires : tie.Need-run-end-requires Inv-loop μ-loop
-run-end-requires c κs = search needs
-
-set-run-requires : tie.Need-set-run-requires Inv-loop μ-loop
-set-run-requires c κs =
-    let start = c .before .before .before .before in
-    (start .pre .0, (search needs, λ i h. start .pre .1 .1 i (le-trans h (c .before .run-end .ensures .1))))
-
-loop-less : tie.Need-loop-less Inv-loop μ-loop
-loop-less c = search needs
-
-loop-again : tie.Need-loop-again Inv-loop μ-loop
-loop-again c =
-    let l = c .before .before .before .before in
-    let args = l .before .args in
-    let end = c .before .before .run-end in
-    (omega arith, withAmplitudes-run (args .before) (args .after) (args .parts .now) (l .loop .first) (end .result) (args .factors .now) (le-of-lt (end .ensures .0)) (l .loop .inv .1) (c .set-run .ensures))
-
-returns : tie.Need-returns Inv-loop μ-loop
+returns : tie.Need-returns
 returns c =
-    let l = c .before in
-    let args = l .before .args in
-    withAmplitudes-end (args .before) (args .after) (args .parts .now) (args .factors .now) (omega arith) (l .loop .inv .1)
+    let args = c .before .args in
+    withAmplitudes-end (args .before) (args .after) (args .parts .now) (args .factors .now) (omega (arith, c .if1 .taken)) (withAmplitudes-none (args .before) (args .after) (args .parts .now) (args .factors .now))
+
+set-if-inside-requires : tie.Need-set-if-inside-requires
+set-if-inside-requires c κs =
+    let pre = c .before .before .pre in
+    (pre .0, ((omega (arith, c .before .if1 .left), pre .1 .0), (pre .1 .1 .0, pre .1 .1 .1)))
+
+returns-2 : tie.Need-returns-2
+returns-2 c =
+    let args = c .before .before .before .before .args in
+    let l = args .factors .now in
+    let set = tried-set (args .before) (args .after) (args .parts .now) 0 (args .frames) l (c .before .set-if-inside .ensures) (c .if2 .taken) in
+    withAmplitudes-run (args .before) (args .after) (args .parts .now) 0 (args .frames) l zero-le (withAmplitudes-none (args .before) (args .after) (args .parts .now) l) set
+
+set-runs-requires : tie.Need-set-runs-requires
+set-runs-requires c κs = c .before .before .before .before .before .pre
+
+returns-3 : tie.Need-returns-3
+returns-3 c =
+    let args = c .before .before .before .before .before .before .args in
+    tried-left (args .before) (args .after) (args .parts .now) 0 (args .frames) (args .factors .now) (withAmplitudes (args .before) (args .after) (args .parts .now) (args .frames))
+    (c .before .before .before .set-if-inside .ensures) (c .before .before .if2 .left) (c .set-runs .ensures)
 
 pub amplitudes-spec : {M : Type 1} → statement M
-amplitudes-spec = tie.close (tie.spec Inv-loop μ-loop loop-holds run-end-requires set-run-requires loop-less loop-again returns)
+amplitudes-spec = tie.close (tie.spec returns set-if-inside-requires returns-2 set-runs-requires returns-3)

@@ -1,4 +1,4 @@
--- `set_inside` meets its contract. The invariant is that of `set_each`; each frame is held, since the count of those outside is 0. Assumes nothing.
+-- `set_inside` meets its contract. The invariant is that of `set_each`. Assumes nothing.
 use mathlib.Core.Path.{_≡_, sym, subst}
 use Prim.Native.Nat.{_-_, _≤_}
 use native.Mathlib.Omega.{arith}
@@ -6,7 +6,7 @@ use lib.Dec.{T}
 use lib.Ieee.{Float}
 use borrow.Author.Needs.{needs}
 use Rattle.level_amplitudes.specs.Amplitudes.{valueAt, withRun}
-use Rattle.level_amplitudes.proofs.laws.Amplitudes.{withRun-none, withRun-turn, withRun-end, all-held}
+use Rattle.level_amplitudes.proofs.laws.Amplitudes.{withRun-none, withRun-turn, withRun-end}
 use Rattle.level_amplitudes.proofs.runs.set_inside.Statement.{statement}
 use Rattle.decibels.specs.Segment.{contains}
 use Rattle.level_amplitudes.proofs.runs.set_inside.Tie as tie
@@ -37,8 +37,7 @@ amplitude-of-requires c κs =
     let l = c .before .before .before in
     let start = l .before in
     let args = start .args in
-    let held = all-held (args .before) (args .after) (args .parts .now) (args .segment) (args .first) (args .to) (start .pre .1 .1) (l .loop .i) (l .loop .inv .0 .0) (omega arith) in
-    (start .pre .1 .0, subst (λ (v : Float). T (contains (args .segment) v)) (sym (c .value-by .ensures)) held)
+    (start .pre .1 .0, subst (λ (v : Float). T (contains (args .segment) v)) (sym (c .value-by .ensures)) (start .pre .1 .1 (l .loop .i) (l .loop .inv .0 .0) (omega arith)))
 
 mul-factors : tie.Need-mul-factors Inv-loop μ-loop
 mul-factors c = search needs

@@ -1,5 +1,5 @@
 use mathlib.Core.Path.{_∙_}
-use Rattle.chunk.proofs.laws.Chunk.{parts-admitted, factors-are}
+use Rattle.chunk.proofs.laws.Chunk.{parts-admitted, parts-monotone, factors-are}
 use Rattle.chunk.proofs.chunk.Level.amplitudes.Statement.{statement}
 use Rattle.chunk.proofs.chunk.Level.amplitudes.Tie as tie
 
@@ -8,7 +8,8 @@ amplitudes-requires c κs =
     let start = c .before .before .before in
     let args = start .args in
     let pre = start .pre in
-    (pre .0, (pre .1 .1 .0, λ i h. parts-admitted (args .frames) i (args .parts .now) (pre .1 .1 .1) (pre .1 .1 .0) h (args .self) (pre .1 .0)))
+    let monotone = parts-monotone (args .frames) (args .parts .now) (pre .1 .1 .1) (pre .1 .1 .0) (args .self) (pre .1 .0) in
+    (pre .0, (pre .1 .1 .0, (λ i h. parts-admitted (args .frames) i (args .parts .now) (pre .1 .1 .1) (pre .1 .1 .0) h (args .self) (pre .1 .0), monotone)))
 
 returns : tie.Need-returns
 returns c =
