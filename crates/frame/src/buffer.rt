@@ -80,6 +80,34 @@ pub fn add_scaled(to: &mut [f32], first: usize, from: &[f32], frames: usize, fac
     }
 }
 
+// Adds each frame of `from` onto that of `to` and, scaled, onto that of `other`, whose frames stand
+// from place `first` on: `add_frames` and `add_scaled` in one pass.
+pub fn add_to_both(
+    to: &mut [f32],
+    other: &mut [f32],
+    first: usize,
+    from: &[f32],
+    frames: usize,
+    factor: Amplitude,
+)
+    requires { ⌜ 2 * frames ≤ length (now to) ⌝ }
+    requires { ⌜ first + 2 * frames ≤ length (now other) ⌝ }
+    requires { ⌜ 2 * frames ≤ length (now from) ⌝ }
+    ensures to { λ _. ⌜ now (to .exit) ≡ withFrames (scratch 0 frames) (addedFrom (frameAt (scratch 0 frames) (now (from .entry)))) (now (to .entry)) ⌝ }
+    ensures other { λ _. ⌜ now (other .exit) ≡ withFrames (scratch first frames)
+        (addedScaled (frameAt (scratch 0 frames) (now (from .entry))) factor) (now (other .entry)) ⌝ }
+{
+    let mut i = 0;
+    while i < frames {
+        let frame = frame_at(from, 0, frames, i);
+        let sum = frame_at(to, 0, frames, i).added(frame);
+        let sent = frame_at(other, first, frames, i).added(frame.scaled(factor));
+        put_frame(to, 0, frames, i, sum);
+        put_frame(other, first, frames, i, sent);
+        i += 1;
+    }
+}
+
 // Scales each frame by one factor.
 pub fn scale(out: &mut [f32], frames: usize, factor: Amplitude)
     requires { ⌜ 2 * frames ≤ length (now out) ⌝ }

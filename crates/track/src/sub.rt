@@ -24,6 +24,7 @@ use chunk::route_at;
 use chunk::track_at;
 use frame::add_frames;
 use frame::add_scaled;
+use frame::add_to_both;
 use gain_table::GainTable;
 use level_amplitudes::Parts;
 use limits::CHUNK_FRAMES;
@@ -35,8 +36,10 @@ use track_volume::apply_placing_and_volume;
 // What a chunk's frames are mixed in.
 pub const SCRATCH: usize = 2 * CHUNK_FRAMES;
 
-// Adds the scaled frames to the send tracks that the track is routed to, first line first.
-fn add_routes<'a>(
+// Adds the scaled frames `out` onto the sum `to`, and to the send tracks that the track is routed to,
+// first line first. The last route and the sum take one pass.
+fn hand_on<'a>(
+    to: &mut [f32],
     sends: &mut [f32],
     out: &[f32],
     places: &Places,
@@ -49,22 +52,35 @@ fn add_routes<'a>(
 )
     requires { ⌜ ChunkOk (chunkFrom (now places) (now levels) (now amplitudes)) (recordings (now samples) (now visitor)) ⌝ }
     requires { ⌜ (let c = chunkFrom (now places) (now levels) (now amplitudes) in now links ≡ routeLinks c) ⌝ }
+    requires { ⌜ (let c = chunkFrom (now places) (now levels) (now amplitudes) in 2 * c .frames ≤ length (now to)) ⌝ }
     requires { ⌜ (let c = chunkFrom (now places) (now levels) (now amplitudes) in 2 * c .frames ≤ length (now out)) ⌝ }
     requires { ⌜ length (now sends) ≡ sendPlaces ⌝ }
     requires { ⌜ line ≤ trackPlaces ⌝ }
-    ensures { λ _. ⌜ (let c = chunkFrom (now (places .entry)) (now (levels .entry)) (now (amplitudes .entry)) in
+    ensures sum { λ _. ⌜ (let c = chunkFrom (now (places .entry)) (now (levels .entry)) (now (amplitudes .entry)) in
+        now (to .exit) ≡ withFrames (scratch 0 (c .frames)) (addedFrom (frameAt (scratch 0 (c .frames)) (now (out .entry)))) (now (to .entry))) ⌝ }
+    ensures sends { λ _. ⌜ (let c = chunkFrom (now (places .entry)) (now (levels .entry)) (now (amplitudes .entry)) in
         now (sends .exit) ≡ onSends (c .frames) (withRoutesFrom c line (frameAt (scratch 0 (c .frames)) (now (out .entry)))) (now (sends .entry))) ⌝ }
 {
     let frames = places[FRAMES];
     let count = places[ROUTE_COUNT];
     let mut r = last_line(links, line);
-    while 0 < r {
+    if r == 0 {
+        add_frames(to, out, frames);
+        return;
+    }
+    let mut next = line_before(links, r);
+    while 0 < next {
         let route = route_at(places, levels, amplitudes, count - r);
         let first = (route.send - 1) * SEND_PART;
         let amplitude = route.amplitude;
         add_scaled(sends, first, out, frames, amplitude);
-        r = line_before(links, r);
+        r = next;
+        next = line_before(links, r);
     }
+    let route = route_at(places, levels, amplitudes, count - r);
+    let first = (route.send - 1) * SEND_PART;
+    let amplitude = route.amplitude;
+    add_to_both(to, sends, first, out, frames, amplitude);
 }
 
 // Leaves in `out`, whose frames are zeros, the frames of track `line`, counted from 1, before its
@@ -196,7 +212,8 @@ pub fn process<'a>(
         sends,
     );
     apply_placing_and_volume(&mut out, track, frames, parts, table);
-    add_routes(
+    hand_on(
+        to,
         sends,
         &out,
         places,
@@ -207,5 +224,4 @@ pub fn process<'a>(
         routes,
         line,
     );
-    add_frames(to, &out, frames);
 }

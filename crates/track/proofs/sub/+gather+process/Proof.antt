@@ -39,11 +39,10 @@ use Rattle.track.proofs.sub.process.Reads as process
 use Rattle.track.proofs.sub.process.Kinds as process-kinds
 use Rattle.track.proofs.sub.+gather+process.Lts-process as process-lts
 use Rattle.chunk.proofs.track_at.Reads as track-at-reads
-use Rattle.frame.proofs.add_frames.Reads as add-frames-reads
 use Rattle.links.proofs.last_line.Reads as last-line-reads
 use Rattle.links.proofs.line_before.Reads as line-before-reads
 use Rattle.track.proofs.sounds.add_sounds.Reads as add-sounds-reads
-use Rattle.track.proofs.sub.add_routes.Reads as add-routes-reads
+use Rattle.track.proofs.sub.hand_on.Reads as hand-on-reads
 use Rattle.track_volume.proofs.apply_placing_and_volume.Reads as apply-placing-and-volume-reads
 use Rattle.track.proofs.sub.+gather+process.{statement}
 use Rattle.track.proofs.sub.+gather+process.Tie.{close}
@@ -313,10 +312,8 @@ process-element-copy-out-frames : (t : ℕ) → process-lts.Need-element-copy-ou
   gather.Post,
   apply-placing-and-volume-reads.Asked,
   apply-placing-and-volume-reads.Learnt,
-  add-routes-reads.Asked,
-  add-routes-reads.Learnt,
-  add-frames-reads.Asked,
-  add-frames-reads.Learnt,
+  hand-on-reads.Asked,
+  hand-on-reads.Learnt,
 ) (process-at t) process.Post
 process-element-copy-out-frames t c = search needs
 
@@ -327,10 +324,8 @@ process-sub-track-at : (t : ℕ) → process-lts.Need-sub-track-at (
   gather.Post,
   apply-placing-and-volume-reads.Asked,
   apply-placing-and-volume-reads.Learnt,
-  add-routes-reads.Asked,
-  add-routes-reads.Learnt,
-  add-frames-reads.Asked,
-  add-frames-reads.Learnt,
+  hand-on-reads.Asked,
+  hand-on-reads.Learnt,
 ) (process-at t) process.Post
 process-sub-track-at t c = c .before .before .before .before .before .pre .1 .1 .1 .1 .1 .0 .0
 
@@ -341,10 +336,8 @@ process-track-at-requires : (t : ℕ) → process-lts.Need-track-at-requires (
   gather.Post,
   apply-placing-and-volume-reads.Asked,
   apply-placing-and-volume-reads.Learnt,
-  add-routes-reads.Asked,
-  add-routes-reads.Learnt,
-  add-frames-reads.Asked,
-  add-frames-reads.Learnt,
+  hand-on-reads.Asked,
+  hand-on-reads.Learnt,
 ) (process-at t) process.Post
 process-track-at-requires t c κs =
     let start = c .before .before .before .before .before in
@@ -357,10 +350,8 @@ process-returns : (t : ℕ) → process-lts.Need-returns (
   gather.Post,
   apply-placing-and-volume-reads.Asked,
   apply-placing-and-volume-reads.Learnt,
-  add-routes-reads.Asked,
-  add-routes-reads.Learnt,
-  add-frames-reads.Asked,
-  add-frames-reads.Learnt,
+  hand-on-reads.Asked,
+  hand-on-reads.Learnt,
 ) (process-at t) process.Post
 process-returns t c =
     let start = c .before .before .before .before .before .before .before in
@@ -381,10 +372,8 @@ process-returns-2 : (t : ℕ) → process-lts.Need-returns-2 (
   gather.Post,
   apply-placing-and-volume-reads.Asked,
   apply-placing-and-volume-reads.Learnt,
-  add-routes-reads.Asked,
-  add-routes-reads.Learnt,
-  add-frames-reads.Asked,
-  add-frames-reads.Learnt,
+  hand-on-reads.Asked,
+  hand-on-reads.Learnt,
 ) (process-at t) process.Post
 process-returns-2 t c =
     let start = c .before .before .before .before .before .before .before .before .before in
@@ -407,10 +396,8 @@ process-sub-gather : (t : ℕ) → process-lts.Need-sub-gather (
   gather.Post,
   apply-placing-and-volume-reads.Asked,
   apply-placing-and-volume-reads.Learnt,
-  add-routes-reads.Asked,
-  add-routes-reads.Learnt,
-  add-frames-reads.Asked,
-  add-frames-reads.Learnt,
+  hand-on-reads.Asked,
+  hand-on-reads.Learnt,
 ) (process-at t) process.Post
 process-sub-gather t c = omega (arith, c .before .before .if1 .left)
 
@@ -421,10 +408,8 @@ process-slice-aggregate-gather : (t : ℕ) → process-lts.Need-slice-aggregate-
   gather.Post,
   apply-placing-and-volume-reads.Asked,
   apply-placing-and-volume-reads.Learnt,
-  add-routes-reads.Asked,
-  add-routes-reads.Learnt,
-  add-frames-reads.Asked,
-  add-frames-reads.Learnt,
+  hand-on-reads.Asked,
+  hand-on-reads.Learnt,
 ) (process-at t) process.Post
 process-slice-aggregate-gather t c = search needs
 
@@ -435,10 +420,8 @@ process-gather-requires : (t : ℕ) → process-lts.Need-gather-requires (
   gather.Post,
   apply-placing-and-volume-reads.Asked,
   apply-placing-and-volume-reads.Learnt,
-  add-routes-reads.Asked,
-  add-routes-reads.Learnt,
-  add-frames-reads.Asked,
-  add-frames-reads.Learnt,
+  hand-on-reads.Asked,
+  hand-on-reads.Learnt,
 ) (process-at t) process.Post
 unfolding ofBits ofInt
 process-gather-requires t c κs =
@@ -456,10 +439,8 @@ process-slice-aggregate-apply-placing-and-volume : (t : ℕ) → process-lts.Nee
   gather.Post,
   apply-placing-and-volume-reads.Asked,
   apply-placing-and-volume-reads.Learnt,
-  add-routes-reads.Asked,
-  add-routes-reads.Learnt,
-  add-frames-reads.Asked,
-  add-frames-reads.Learnt,
+  hand-on-reads.Asked,
+  hand-on-reads.Learnt,
 ) (process-at t) process.Post
 process-slice-aggregate-apply-placing-and-volume t c = search needs
 
@@ -470,10 +451,8 @@ process-apply-placing-and-volume-requires : (t : ℕ) → process-lts.Need-apply
   gather.Post,
   apply-placing-and-volume-reads.Asked,
   apply-placing-and-volume-reads.Learnt,
-  add-routes-reads.Asked,
-  add-routes-reads.Learnt,
-  add-frames-reads.Asked,
-  add-frames-reads.Learnt,
+  hand-on-reads.Asked,
+  hand-on-reads.Learnt,
 ) (process-at t) process.Post
 unfolding ofBits ofInt
 process-apply-placing-and-volume-requires t c κs =
@@ -494,35 +473,31 @@ process-apply-placing-and-volume-requires t c κs =
     let placing : PlacingIn (trackRow chunk (line - 1) .placing) → PlacingIn (track .placing) = subst (λ (t : ChunkTrack). PlacingIn (t .placing)) (sym (c .before .before .before .before .before .before .before .before .before .before .track-at .ensures)) in
     (start .pre .1 .0, ((ok .short, omega (arith, gathered, ok .short)), ((level (λ t. t .volume) (ok .volumes (line - 1) (omega (arith, lines .0, lines .1))), level (λ t. t .fade) (ok .fades (line - 1) (omega (arith, lines .0, lines .1)))), (placing (ok .placings (line - 1) (omega (arith, lines .0, lines .1))), start .pre .1 .1 .1 .1 .0))))
 
-process-slice-aggregate-add-routes : (t : ℕ) → process-lts.Need-slice-aggregate-add-routes (
+process-slice-aggregate-hand-on : (t : ℕ) → process-lts.Need-slice-aggregate-hand-on (
   track-at-reads.Asked,
   track-at-reads.Learnt,
   gather-below t,
   gather.Post,
   apply-placing-and-volume-reads.Asked,
   apply-placing-and-volume-reads.Learnt,
-  add-routes-reads.Asked,
-  add-routes-reads.Learnt,
-  add-frames-reads.Asked,
-  add-frames-reads.Learnt,
+  hand-on-reads.Asked,
+  hand-on-reads.Learnt,
 ) (process-at t) process.Post
-process-slice-aggregate-add-routes t c = search needs
+process-slice-aggregate-hand-on t c = search needs
 
-process-add-routes-requires : (t : ℕ) → process-lts.Need-add-routes-requires (
+process-hand-on-requires : (t : ℕ) → process-lts.Need-hand-on-requires (
   track-at-reads.Asked,
   track-at-reads.Learnt,
   gather-below t,
   gather.Post,
   apply-placing-and-volume-reads.Asked,
   apply-placing-and-volume-reads.Learnt,
-  add-routes-reads.Asked,
-  add-routes-reads.Learnt,
-  add-frames-reads.Asked,
-  add-frames-reads.Learnt,
+  hand-on-reads.Asked,
+  hand-on-reads.Learnt,
 ) (process-at t) process.Post
 unfolding ofBits ofInt
-process-add-routes-requires t c κs =
-    let start = c .before .before .before .before .before .before .before .before .before .before .before .before .before .before .before .before .before .before .before .before in
+process-hand-on-requires t c κs =
+    let start = c .before .before .before .before .before .before .before .before .before .before .before .before .before .before .before .before .before .before .before .before .before in
     let args = start .args in
     let chunk = chunkFrom (args .places .now) (args .levels .now) (args .amplitudes .now) in
     let samples = recordings (args .samples .now) (args .visitor .now) in
@@ -531,56 +506,13 @@ process-add-routes-requires t c κs =
     let line = args .line in
     let ok = start .pre .1 .1 .0 in
     let d = args .depth - 1 in
-    let made = c .before .before .before .before .before .before .before .before .gather .ensures in
-    let track = c .before .before .before .before .before .before .before .before .before .before .before .before .before .before .track-at .result in
+    let made = c .before .before .before .before .before .before .before .before .before .gather .ensures in
+    let track = c .before .before .before .before .before .before .before .before .before .before .before .before .before .before .before .track-at .result in
     let gathered = kept L (sumSet d chunk samples line) n silent (made .0) in
-    let scaled = kept L (trackPlacedScaled track n) n _ (c .before .before .before .apply-placing-and-volume .ensures) in
-    let long : 2 * n ≤ length (c .before .before .before .apply-placing-and-volume .last .0) = omega (arith, gathered, scaled, ok .short) in
+    let scaled = kept L (trackPlacedScaled track n) n _ (c .before .before .before .before .apply-placing-and-volume .ensures) in
+    let long : 2 * n ≤ length (c .before .before .before .before .apply-placing-and-volume .last .0) = omega (arith, gathered, scaled, ok .short) in
     let room = ap length (made .1) ∙ onSends-length n (withSubSends d chunk samples line) (args .sends .now) ∙ start .pre .1 .1 .1 .1 .1 .1 .1 .0 in
-    (ok, (start .pre .1 .1 .1 .0 .2, (long, (room, omega (arith, start .pre .1 .1 .1 .1 .1 .0 .1, ok .tracks)))))
-
-process-slice-aggregate-add-frames : (t : ℕ) → process-lts.Need-slice-aggregate-add-frames (
-  track-at-reads.Asked,
-  track-at-reads.Learnt,
-  gather-below t,
-  gather.Post,
-  apply-placing-and-volume-reads.Asked,
-  apply-placing-and-volume-reads.Learnt,
-  add-routes-reads.Asked,
-  add-routes-reads.Learnt,
-  add-frames-reads.Asked,
-  add-frames-reads.Learnt,
-) (process-at t) process.Post
-process-slice-aggregate-add-frames t c = search needs
-
-process-add-frames-requires : (t : ℕ) → process-lts.Need-add-frames-requires (
-  track-at-reads.Asked,
-  track-at-reads.Learnt,
-  gather-below t,
-  gather.Post,
-  apply-placing-and-volume-reads.Asked,
-  apply-placing-and-volume-reads.Learnt,
-  add-routes-reads.Asked,
-  add-routes-reads.Learnt,
-  add-frames-reads.Asked,
-  add-frames-reads.Learnt,
-) (process-at t) process.Post
-unfolding ofBits ofInt
-process-add-frames-requires t c κs =
-    let start = c .before .before .before .before .before .before .before .before .before .before .before .before .before .before .before .before .before .before .before .before .before .before .before .before .before in
-    let args = start .args in
-    let chunk = chunkFrom (args .places .now) (args .levels .now) (args .amplitudes .now) in
-    let samples = recordings (args .samples .now) (args .visitor .now) in
-    let n = chunk .frames in
-    let L = scratch 0 n in
-    let line = args .line in
-    let ok = start .pre .1 .1 .0 in
-    let d = args .depth - 1 in
-    let made = c .before .before .before .before .before .before .before .before .before .before .before .before .before .gather .ensures in
-    let track = c .before .before .before .before .before .before .before .before .before .before .before .before .before .before .before .before .before .before .before .track-at .result in
-    let gathered = kept L (sumSet d chunk samples line) n silent (made .0) in
-    let scaled = kept L (trackPlacedScaled track n) n _ (c .before .before .before .before .before .before .before .before .apply-placing-and-volume .ensures) in
-    (start .pre .1 .1 .1 .1 .1 .1 .0, omega (arith, gathered, scaled, ok .short))
+    (ok, (start .pre .1 .1 .1 .0 .2, (start .pre .1 .1 .1 .1 .1 .1 .0, (long, (room, omega (arith, start .pre .1 .1 .1 .1 .1 .0 .1, ok .tracks))))))
 
 process-same-length : (t : ℕ) → process-lts.Need-same-length (
   track-at-reads.Asked,
@@ -589,10 +521,8 @@ process-same-length : (t : ℕ) → process-lts.Need-same-length (
   gather.Post,
   apply-placing-and-volume-reads.Asked,
   apply-placing-and-volume-reads.Learnt,
-  add-routes-reads.Asked,
-  add-routes-reads.Learnt,
-  add-frames-reads.Asked,
-  add-frames-reads.Learnt,
+  hand-on-reads.Asked,
+  hand-on-reads.Learnt,
 ) (process-at t) process.Post
 process-same-length t c = search needs
 
@@ -603,10 +533,8 @@ process-same-length-2 : (t : ℕ) → process-lts.Need-same-length-2 (
   gather.Post,
   apply-placing-and-volume-reads.Asked,
   apply-placing-and-volume-reads.Learnt,
-  add-routes-reads.Asked,
-  add-routes-reads.Learnt,
-  add-frames-reads.Asked,
-  add-frames-reads.Learnt,
+  hand-on-reads.Asked,
+  hand-on-reads.Learnt,
 ) (process-at t) process.Post
 process-same-length-2 t c = search needs
 
@@ -617,14 +545,12 @@ process-returns-3 : (t : ℕ) → process-lts.Need-returns-3 (
   gather.Post,
   apply-placing-and-volume-reads.Asked,
   apply-placing-and-volume-reads.Learnt,
-  add-routes-reads.Asked,
-  add-routes-reads.Learnt,
-  add-frames-reads.Asked,
-  add-frames-reads.Learnt,
+  hand-on-reads.Asked,
+  hand-on-reads.Learnt,
 ) (process-at t) process.Post
 unfolding ofBits ofInt
 process-returns-3 t c =
-    let start = c .before .before .before .before .before .before .before .before .before .before .before .before .before .before .before .before .before .before .before .before .before .before .before .before .before .before .before .before in
+    let start = c .before .before .before .before .before .before .before .before .before .before .before .before .before .before .before .before .before .before .before .before .before .before .before .before .before .before in
     let args = start .args in
     let chunk = chunkFrom (args .places .now) (args .levels .now) (args .amplitudes .now) in
     let samples = recordings (args .samples .now) (args .visitor .now) in
@@ -633,15 +559,16 @@ process-returns-3 t c =
     let line = args .line in
     let ok = start .pre .1 .1 .0 in
     let d = args .depth - 1 in
-    let deep : args .depth ≡ suc d = omega (arith, c .before .before .before .before .before .before .before .before .before .before .before .before .before .before .before .before .before .before .before .before .before .if1 .left) in
-    let read = c .before .before .before .before .before .before .before .before .before .before .before .before .before .before .before .before .before .before .before .before .before .before .track-at .ensures in
-    let moves = ap (λ (t : ChunkTrack). t .advancing) (sym read) ∙ not-false _ (c .before .before .before .before .before .before .before .before .before .before .before .before .before .before .before .before .before .before .before .if2 .left) in
-    let made = c .before .before .before .before .before .before .before .before .before .before .before .before .before .before .before .before .gather .ensures in
-    let sum = c .before .before .before .before .before .before .before .before .before .before .before .before .before .before .before .before .gather .last .1 .1 .1 .1 .1 .1 .1 .1 .1 .1 .1 .1 .0 in
-    let scaled = c .before .before .before .before .before .before .before .before .before .before .before .apply-placing-and-volume .ensures ∙ ap (λ (t : ChunkTrack). withFrames L (trackPlacedScaled t n) sum) read in
-    let out = c .before .before .before .before .before .before .before .before .before .before .before .apply-placing-and-volume .last .0 in
+    let deep : args .depth ≡ suc d = omega (arith, c .before .before .before .before .before .before .before .before .before .before .before .before .before .before .before .before .before .before .before .if1 .left) in
+    let read = c .before .before .before .before .before .before .before .before .before .before .before .before .before .before .before .before .before .before .before .before .track-at .ensures in
+    let moves = ap (λ (t : ChunkTrack). t .advancing) (sym read) ∙ not-false _ (c .before .before .before .before .before .before .before .before .before .before .before .before .before .before .before .before .before .if2 .left) in
+    let made = c .before .before .before .before .before .before .before .before .before .before .before .before .before .before .gather .ensures in
+    let sum = c .before .before .before .before .before .before .before .before .before .before .before .before .before .before .gather .last .1 .1 .1 .1 .1 .1 .1 .1 .1 .1 .1 .1 .0 in
+    let scaled = c .before .before .before .before .before .before .before .before .before .apply-placing-and-volume .ensures ∙ ap (λ (t : ChunkTrack). withFrames L (trackPlacedScaled t n) sum) read in
+    let out = c .before .before .before .before .before .before .before .before .before .apply-placing-and-volume .last .0 in
     let has = track-mixed (args .depth) d chunk samples line deep silent (omega (arith, ok .short)) moves (made .0) scaled in
-    (track-added (args .depth) chunk samples line (args .to .now) out has (c .before .before .add-frames .ensures), sends-mixed (args .depth) d chunk samples line (args .sends .now) deep out (ok .short) (start .pre .1 .1 .1 .1 .1 .1 .1 .0) moves has (made .1) (c .before .before .before .before .before .before .before .add-routes .ensures))
+    let handed = c .before .before .before .before .hand-on .ensures in
+    (track-added (args .depth) chunk samples line (args .to .now) out has (handed .0), sends-mixed (args .depth) d chunk samples line (args .sends .now) deep out (ok .short) (start .pre .1 .1 .1 .1 .1 .1 .1 .0) moves has (made .1) (handed .1))
 
 pub +gather+process-spec : {M : Type 1} → statement M
 +gather+process-spec = close μ-gather μ-process (λ t. gather-lts.spec (
@@ -675,10 +602,8 @@ pub +gather+process-spec : {M : Type 1} → statement M
       gather.Post,
       apply-placing-and-volume-reads.Asked,
       apply-placing-and-volume-reads.Learnt,
-      add-routes-reads.Asked,
-      add-routes-reads.Learnt,
-      add-frames-reads.Asked,
-      add-frames-reads.Learnt,
+      hand-on-reads.Asked,
+      hand-on-reads.Learnt,
     )
     (process-at t)
     process.Post
@@ -692,10 +617,8 @@ pub +gather+process-spec : {M : Type 1} → statement M
     (process-gather-requires t)
     (process-slice-aggregate-apply-placing-and-volume t)
     (process-apply-placing-and-volume-requires t)
-    (process-slice-aggregate-add-routes t)
-    (process-add-routes-requires t)
-    (process-slice-aggregate-add-frames t)
-    (process-add-frames-requires t)
+    (process-slice-aggregate-hand-on t)
+    (process-hand-on-requires t)
     (process-same-length t)
     (process-same-length-2 t)
     (process-returns-3 t)
