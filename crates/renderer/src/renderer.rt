@@ -1,18 +1,17 @@
 // kira's backend/renderer.rs.
 ghost use mathlib.Core.Path.{_≡_};
 ghost use Prim.Native.Nat.{ℕ, _+_, _*_, _^_, _≤_, _<_};
-ghost use lib.ListN.{length};
+ghost use lib.ListN.{length, replicate};
 ghost use Rattle.recordings.specs.Recordings.{recordings};
 ghost use Rattle.limits.specs.Limits.{chunkFramesMost, blockFramesMost, channelsMost, rateMost};
-ghost use Rattle.laws.specs.Pieces.{pieces, putAt};
+ghost use Rattle.laws.specs.Pieces.{pieces};
 ghost use Rattle.gain_table.specs.GainTable.{IsGainTable};
 ghost use Rattle.clock.specs.ChunkTime.{chunkTime};
 ghost use Rattle.accepted.specs.SceneOk.{SceneOk, SamplesOk};
-ghost use Rattle.frame.specs.Frame.{clamped};
+ghost use Rattle.frame.specs.Frame.{clamped, zeroSample};
 ghost use Rattle.frame.specs.Layout.{scratch, frameAt};
 ghost use Rattle.mixer.specs.MixerOk.{MixerOk};
-ghost use Rattle.renderer.specs.Renderer.{chunkCount, chunkFrames, channelAt, channelsOf, inChunk, chunkDone, chunksDone, chunkSamples, blockSamples};
-use frame::Frame;
+ghost use Rattle.renderer.specs.Renderer.{chunkCount, chunkFrames, channelsOf, inChunk, chunkDone, chunksDone, chunkSamples, blockSamples};
 use frame::frame_at;
 use gain_table::GainTable;
 use limits::CHUNK_FRAMES;
@@ -48,35 +47,23 @@ pub fn chunk_seconds(rate: usize, frames: usize) -> f64
     (1.0 / (rate as f64)) * (frames as f64)
 }
 
-// What channel c of a frame gets.
-fn channel_of(frame: Frame, channels: usize, c: usize) -> f32
-    ensures { λ r. ⌜ r ≡ channelAt channels frame c ⌝ }
+// One channel is both sides folded. Neither here nor below is anything tested for each sample, so that
+// the loops vectorise.
+fn write_mono(out: &mut [f32], mix: &[f32], frames: usize)
+    requires { ⌜ length (now out) ≡ frames * 1 ⌝ }
+    requires { ⌜ 2 * frames ≤ length (now mix) ⌝ }
+    requires { ⌜ frames ≤ chunkFramesMost ⌝ }
+    ensures { λ _. ⌜ now (out .exit) ≡ pieces (λ i. channelsOf 1 (clamped (frameAt (scratch 0 frames) (now (mix .entry)) i))) frames ⌝ }
 {
-    if channels == 1 {
-        return (frame.left + frame.right) / 2.0;
-    }
-    if c == 0 {
-        return frame.left;
-    }
-    if c == 1 {
-        return frame.right;
-    }
-    0.0
-}
-
-// A frame to its channels, from a place on.
-fn write_frame(out: &mut [f32], at: usize, channels: usize, frame: Frame)
-    requires { ⌜ at + channels ≤ length (now out) ⌝ }
-    ensures { λ _. ⌜ now (out .exit) ≡ putAt at (channelsOf channels frame) (now (out .entry)) ⌝ }
-{
-    let mut c = 0;
-    while c < channels {
-        out[at + c] = channel_of(frame, channels, c);
-        c += 1;
+    let mut i = 0;
+    while i < frames {
+        let both = frame_at(mix, 0, frames, i).clamped();
+        out[i] = (both.left + both.right) / 2.0;
+        i += 1;
     }
 }
 
-// Two channels are the two sides. Nothing is tested for each sample, so that the loop vectorises.
+// Two channels are the two sides.
 fn write_stereo(out: &mut [f32], mix: &[f32], frames: usize)
     requires { ⌜ length (now out) ≡ frames * 2 ⌝ }
     requires { ⌜ 2 * frames ≤ length (now mix) ⌝ }
@@ -92,17 +79,31 @@ fn write_stereo(out: &mut [f32], mix: &[f32], frames: usize)
     }
 }
 
-// Any number of channels.
-fn write_channels(out: &mut [f32], channels: usize, mix: &[f32], frames: usize)
+fn silence(out: &mut [f32])
+    ensures { λ _. ⌜ now (out .exit) ≡ replicate (length (now (out .entry))) zeroSample ⌝ }
+{
+    let mut i = 0;
+    while i < out.len() {
+        out[i] = 0.0;
+        i += 1;
+    }
+}
+
+// Of more channels the first two are the sides, and the others silent: all of them at once, before.
+fn write_wide(out: &mut [f32], channels: usize, mix: &[f32], frames: usize)
     requires { ⌜ length (now out) ≡ frames * channels ⌝ }
     requires { ⌜ 2 * frames ≤ length (now mix) ⌝ }
-    requires { ⌜ (frames ≤ chunkFramesMost) × (channels ≤ channelsMost) ⌝ }
+    requires { ⌜ (frames ≤ chunkFramesMost) × (2 ≤ channels) × (channels ≤ channelsMost) ⌝ }
     ensures { λ _. ⌜ now (out .exit) ≡ pieces (λ i. channelsOf channels (clamped (frameAt (scratch 0 frames) (now (mix .entry)) i))) frames ⌝ }
 {
+    silence(out);
+    let mut at = 0;
     let mut i = 0;
     while i < frames {
         let frame = frame_at(mix, 0, frames, i).clamped();
-        write_frame(out, i * channels, channels, frame);
+        out[at] = frame.left;
+        out[at + 1] = frame.right;
+        at += channels;
         i += 1;
     }
 }
@@ -111,14 +112,18 @@ fn write_channels(out: &mut [f32], channels: usize, mix: &[f32], frames: usize)
 pub fn write_frames(out: &mut [f32], channels: usize, mix: &[f32], frames: usize)
     requires { ⌜ length (now out) ≡ frames * channels ⌝ }
     requires { ⌜ 2 * frames ≤ length (now mix) ⌝ }
-    requires { ⌜ (frames ≤ chunkFramesMost) × (channels ≤ channelsMost) ⌝ }
+    requires { ⌜ (frames ≤ chunkFramesMost) × (1 ≤ channels) × (channels ≤ channelsMost) ⌝ }
     ensures { λ _. ⌜ now (out .exit) ≡ pieces (λ i. channelsOf channels (clamped (frameAt (scratch 0 frames) (now (mix .entry)) i))) frames ⌝ }
 {
+    if channels == 1 {
+        write_mono(out, mix, frames);
+        return;
+    }
     if channels == 2 {
         write_stereo(out, mix, frames);
-    } else {
-        write_channels(out, channels, mix, frames);
+        return;
     }
+    write_wide(out, channels, mix, frames);
 }
 
 // Chunk k of a block: states move, frames are mixed, and then the sounds have played.

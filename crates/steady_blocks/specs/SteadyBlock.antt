@@ -52,7 +52,7 @@ stillSamples h places levels amplitudes samples = pieces (λ k. stillChunk h lev
 pub record StillOk (h : Head) (places : List ℕ) (levels amplitudes : List Float) (samples : Recordings) (clocks : Clocks) : Type 0 where
   pub long : length places ≡ placesSize
   pub rate : h .rate ≤ rateMost
-  pub channels : h .channels ≤ channelsMost
+  pub channels : (1 ≤ h .channels) × (h .channels ≤ channelsMost)
   pub buffer : (1 ≤ h .buffer) × (h .buffer ≤ chunkFramesMost)
   pub block : h .block ≤ blockFramesMost
   pub chunks : (k : ℕ) → k < chunkCount h → ChunkOk (chunkFrom (framed (chunkFrames h k) (stillPlaces h k places)) levels amplitudes) samples

@@ -90,7 +90,7 @@ fn steady_chunk<'a>(
     requires { ⌜ ChunkOk (chunkFrom (framed frames (now places)) (now levels) (now amplitudes)) (recordings (now samples) (now visitor)) ⌝ }
     requires { ⌜ TracksThere (now places) (getD (now places) soundCountPlace 0) ⌝ }
     requires { ⌜ cond ends (now last) (now full) ≡ partsOf frames ⌝ }
-    requires { ⌜ channels ≤ channelsMost ⌝ }
+    requires { ⌜ (1 ≤ channels) × (channels ≤ channelsMost) ⌝ }
     requires { ⌜ length (now out) ≡ frames * channels ⌝ }
     ensures places { λ _. ⌜ now (places .exit) ≡ advanced frames (framed frames (now (places .entry))) ⌝ }
     ensures samples { λ _. ⌜ (let c = chunkFrom (framed frames (now (places .entry))) (now (levels .entry)) (now (amplitudes .entry)) in

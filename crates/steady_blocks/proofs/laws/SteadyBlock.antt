@@ -126,7 +126,7 @@ module _ (s : Scene) (m : Mixer) (places : List ℕ) (levels amplitudes : List F
         record {
           long = h .stands .long;
           rate = ok .rate .1;
-          channels = ok .channels .1;
+          channels = ok .channels;
           buffer = ok .buffer;
           block = ok .block .1;
           chunks = λ k b. chunk-mixes s m (stillPlaces (s .head) k places) levels amplitudes (chunksDone s k now) (c + k) ok (reached k .inside) (reached k .stands) k samples there;

@@ -71,7 +71,7 @@ module _ {h : Head} {places : List ℕ} {levels amplitudes : List Float} {sample
     turn-ends = place-ends h k n (h .channels) (ok .buffer .0) inside is
 
     pub turn-fits : k * h .buffer * h .channels + n * h .channels ≤ blockFramesMost * channelsMost
-    turn-fits = le-trans turn-ends (le-trans (mul-le-mul (ok .block) (ok .channels)) (lit≤ tt))
+    turn-fits = le-trans turn-ends (le-trans (mul-le-mul (ok .block) (ok .channels .1)) (lit≤ tt))
 
     pub turn-parts : (full last : List Float) → full ≡ partsOf (h .buffer) → last ≡ partsOf (chunkFrames h (chunkCount h - 1)) → cond (eqb (k + 1) count) last full ≡ partsOf n
     turn-parts full last whole rest = go (eqb (k + 1) count) refl

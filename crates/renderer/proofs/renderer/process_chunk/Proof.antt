@@ -71,7 +71,7 @@ write-frames-requires c κs =
     let ok = start .pre .1 .0 in
     let is = c .before .before .before .before .before .before .before .before .chunk-frames .ensures in
     let few = few-at s (start .args .k) ok is in
-    (start .pre .1 .1 .1 .1 .1 ∙ ap (λ n. n * s .head .channels) (sym is), (omega (arith, few, c .before .before .before .process .kept .1 .1 .1 .1 .0), (few, ok .channels .1)))
+    (start .pre .1 .1 .1 .1 .1 ∙ ap (λ n. n * s .head .channels) (sym is), (omega (arith, few, c .before .before .before .process .kept .1 .1 .1 .1 .0), (few, ok .channels .0, ok .channels .1)))
 
 sounds-played-requires : tie.Need-sounds-played-requires
 sounds-played-requires c κs =

@@ -37,7 +37,7 @@ write-frames-requires : tie.Need-write-frames-requires
 write-frames-requires c κs =
     let start = c .before .before .before .before .before .before .before .before .before in
     let few = few-framed (start .args .frames) (start .args .places .now) (start .args .levels .now) (start .args .amplitudes .now) (recordings (start .args .samples .now) (start .args .visitor .now)) (start .pre .1 .0) (start .pre .1 .1 .0) in
-    (start .pre .1 .1 .1 .1 .1 .1, (omega (arith, few, c .before .before .before .mix-chunk .kept .1 .1 .1 .1 .1 .1 .1 .1 .1 .0), (few, start .pre .1 .1 .1 .1 .1 .0)))
+    (start .pre .1 .1 .1 .1 .1 .1, (omega (arith, few, c .before .before .before .mix-chunk .kept .1 .1 .1 .1 .1 .1 .1 .1 .1 .0), (few, start .pre .1 .1 .1 .1 .1 .0 .0, start .pre .1 .1 .1 .1 .1 .0 .1)))
 
 advance-requires : tie.Need-advance-requires
 unfolding framed
