@@ -6,7 +6,7 @@ use Rattle.limits.specs.Limits.{sendLines, chunkFramesMost}
 use Rattle.laws.specs.Loop.{upto}
 use Rattle.frame.specs.declared.frame.Frame.{Frame}
 use Rattle.chunk.specs.declared.chunk.Level.{Level}
-use Rattle.frame.specs.Frame.{zeroFrame, added, scaled}
+use Rattle.frame.specs.Frame.{zeroFrame, added, scaled, cleared}
 use Rattle.frame.specs.Layout.{Layout, scratch, withFrames}
 use Rattle.chunk.specs.Chunk.{amountAt, levelAmplitude}
 
@@ -39,3 +39,7 @@ sendLayout s n = scratch (s * sendPart) n
 -- a step on the n frames of each send track, which are counted from 1
 unfoldable pub onSends : ℕ → (ℕ → ℕ → Frame → Frame) → List Float → List Float
 onSends n f l = upto (λ s r. withFrames (sendLayout s n) (f (suc s)) r) sendLines l
+
+-- the n frames of the first `count` send tracks cleared
+unfoldable pub clearedSends : ℕ → ℕ → List Float → List Float
+clearedSends n count l = upto (λ s r. withFrames (sendLayout s n) cleared r) count l

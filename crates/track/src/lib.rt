@@ -7,3 +7,4 @@ mod sub;
 
 pub use mix::process;
 pub use mix::process_flat;
+pub use send::SEND_PLACES;

@@ -8,7 +8,7 @@ ghost use Rattle.limits.specs.Limits.{trackDepth};
 ghost use Rattle.frame.specs.Layout.{scratch, withFrames};
 ghost use Rattle.chunk.specs.Chunk.{ChunkOk, partsOf};
 ghost use Rattle.chunk.specs.Flat.{chunkFrom};
-ghost use Rattle.track.specs.Owners.{subTrackLinks, soundLinks, routeLinks};
+ghost use Rattle.track.specs.Owners.{subTrackLinks, soundLinks, routeLinks, LinksOf};
 ghost use Rattle.track.specs.Sub.{withSubSends};
 ghost use Rattle.track.specs.Mix.{mixedSet, tracksSet, withSendTracks};
 ghost use Rattle.track.specs.Send.{sendPlaces, onSends};
@@ -16,6 +16,7 @@ use crate::send::SEND_PART;
 use crate::send::SEND_PLACES;
 use crate::send::add_send;
 use crate::send::apply_level;
+use crate::send::clear_sends;
 use crate::sounds::add_sounds;
 use crate::sub;
 use chunk::Amplitudes;
@@ -26,12 +27,9 @@ use chunk::Levels;
 use chunk::PARENTS;
 use chunk::PLACES;
 use chunk::Places;
-use chunk::ROUTE_COUNT;
 use chunk::ROUTE_TRACKS;
 use chunk::SEND_COUNT;
-use chunk::SOUND_COUNT;
 use chunk::SOUND_TRACKS;
-use chunk::TRACK_COUNT;
 use chunk::flatten;
 use chunk::main_level;
 use chunk::parts_of;
@@ -131,43 +129,46 @@ fn add_sends<'a>(
 }
 
 // Sets `out` to the mix of the chunk: tracks, then send tracks, then the main track's sounds, and the
-// main volume.
+// main volume. `sends` is room for the send tracks' inputs: what it held does not matter.
 pub fn process_flat<'a>(
     places: &Places,
     levels: &Levels,
     amplitudes: &Amplitudes,
+    sub_tracks: &Links,
+    sounds: &Links,
+    routes: &Links,
     parts: &Parts,
     table: &GainTable,
     samples: &'a [f32],
     visitor: &'a [f32],
+    sends: &mut [f32],
     out: &mut [f32],
 )
     requires { ⌜ IsGainTable (now table) ⌝ }
     requires { ⌜ ChunkOk (chunkFrom (now places) (now levels) (now amplitudes)) (recordings (now samples) (now visitor)) ⌝ }
+    requires { ⌜ LinksOf (chunkFrom (now places) (now levels) (now amplitudes)) (now «sub_tracks») (now sounds) (now routes) ⌝ }
     requires { ⌜ (let c = chunkFrom (now places) (now levels) (now amplitudes) in now parts ≡ partsOf (c .frames)) ⌝ }
     requires { ⌜ (let c = chunkFrom (now places) (now levels) (now amplitudes) in 2 * c .frames ≤ length (now out)) ⌝ }
+    requires { ⌜ length (now sends) ≡ sendPlaces ⌝ }
     ensures { λ _. ⌜ (let c = chunkFrom (now (places .entry)) (now (levels .entry)) (now (amplitudes .entry)) in
         let heard = recordings (now (samples .entry)) (now (visitor .entry)) in
         now (out .exit) ≡ withFrames (scratch 0 (c .frames)) (mixedSet c heard) (now (out .entry))) ⌝ }
 {
-    let mut sends = [0.0f32; SEND_PLACES];
     let frames = places[FRAMES];
-    let sub_tracks = links_of(places, PARENTS, places[TRACK_COUNT]);
-    let sounds = links_of(places, SOUND_TRACKS, places[SOUND_COUNT]);
-    let routes = links_back(places, ROUTE_TRACKS, places[ROUTE_COUNT]);
+    clear_sends(sends, places[SEND_COUNT], frames);
     process_tracks(
         places,
         levels,
         amplitudes,
-        &sub_tracks,
-        &sounds,
-        &routes,
+        sub_tracks,
+        sounds,
+        routes,
         parts,
         table,
         samples,
         visitor,
         out,
-        &mut sends,
+        sends,
     );
     add_sends(
         places,
@@ -177,19 +178,10 @@ pub fn process_flat<'a>(
         table,
         samples,
         visitor,
-        &sends,
+        sends,
         out,
     );
-    add_sounds(
-        out,
-        samples,
-        visitor,
-        places,
-        levels,
-        amplitudes,
-        &sounds,
-        0,
-    );
+    add_sounds(out, samples, visitor, places, levels, amplitudes, sounds, 0);
     let main = main_level(places, levels, amplitudes);
     apply_level(out, main, frames, parts, table);
 }
@@ -214,14 +206,22 @@ pub fn process<'a>(
     flatten(chunk, &mut places, &mut levels, &mut amplitudes);
     let frames = chunk.frames;
     let parts = parts_of(frames);
+    let sub_tracks = links_of(&places, PARENTS, chunk.track_count);
+    let sounds = links_of(&places, SOUND_TRACKS, chunk.sound_count);
+    let routes = links_back(&places, ROUTE_TRACKS, chunk.route_count);
+    let mut sends = [0.0f32; SEND_PLACES];
     process_flat(
         &places,
         &levels,
         &amplitudes,
+        &sub_tracks,
+        &sounds,
+        &routes,
         &parts,
         table,
         samples,
         visitor,
+        &mut sends,
         out,
     );
 }

@@ -4,11 +4,12 @@ ghost use mathlib.Core.Path.{_≡_};
 ghost use mathlib.Core.Bool.{true};
 ghost use Prim.Native.Nat.{_+_, _*_, _≤_};
 ghost use lib.ListN.{length};
-ghost use Rattle.limits.specs.Limits.{chunkFramesMost};
+ghost use Rattle.limits.specs.Limits.{sendLines, chunkFramesMost};
 ghost use Rattle.gain_table.specs.GainTable.{IsGainTable};
+ghost use Rattle.frame.specs.Frame.{cleared};
 ghost use Rattle.frame.specs.Layout.{scratch, frameAt, withFrames};
 ghost use Rattle.chunk.specs.Chunk.{isSteady, partsOf, LevelInRange};
-ghost use Rattle.track.specs.Send.{levelScaled, addedSend};
+ghost use Rattle.track.specs.Send.{levelScaled, addedSend, sendPlaces, clearedSends};
 use chunk::Level;
 use decibels::Amplitude;
 use frame::Frame;
@@ -25,6 +26,32 @@ use limits::SEND_LINES;
 pub const SEND_PART: usize = 2 * CHUNK_FRAMES;
 
 pub const SEND_PLACES: usize = SEND_LINES * SEND_PART;
+
+// Clears the input that stands from place `first` on.
+fn clear_send(sends: &mut [f32], first: usize, frames: usize)
+    requires { ⌜ first + 2 * frames ≤ length (now sends) ⌝ }
+    ensures { λ _. ⌜ now (sends .exit) ≡ withFrames (scratch first frames) cleared (now (sends .entry)) ⌝ }
+{
+    let mut i = 0;
+    while i < frames {
+        put_frame(sends, first, frames, i, Frame::zero());
+        i += 1;
+    }
+}
+
+// Clears the inputs of the first `count` send tracks.
+pub fn clear_sends(sends: &mut [f32], count: usize, frames: usize)
+    requires { ⌜ count ≤ sendLines ⌝ }
+    requires { ⌜ frames ≤ chunkFramesMost ⌝ }
+    requires { ⌜ length (now sends) ≡ sendPlaces ⌝ }
+    ensures { λ _. ⌜ now (sends .exit) ≡ clearedSends frames count (now (sends .entry)) ⌝ }
+{
+    let mut s = 0;
+    while s < count {
+        clear_send(sends, s * SEND_PART, frames);
+        s += 1;
+    }
+}
 
 // Scales each frame by one level.
 pub fn apply_level(out: &mut [f32], level: Level, frames: usize, parts: &Parts, table: &GainTable)

@@ -1,25 +1,29 @@
 -- Loops over a table that follow links come to the same as loops over every line: `Follows` is such a loop's invariant, and says what is still to do
--- from the line where it stands; lines of other owners between two that are followed change nothing. Assumes nothing.
+-- from the line where it stands; lines of other owners between two that are followed change nothing. Then, links of flat tables: they are the chunk's,
+-- and those of all tables whose lines have the same owners. Assumes nothing.
 use mathlib.Core.Path.{_≡_, refl, sym, ap, _∙_, subst}
+use mathlib.Core.Logic.{⊎-elim}
 use mathlib.Core.List.{List}
 use Prim.Native.Nat.{ℕ, _+_, _-_, _≤_, _<_}
-use native.Mathlib.Nat.{zero-add}
+use native.Mathlib.Nat.{zero-add, le-trans, le-of-eq}
 use native.Mathlib.Omega.{arith}
-use lib.ListN.{length, getD}
+use lib.ListN.{length, getD, List·getD-eq-default}
 use lib.Ieee.{Float}
 use Rattle.laws.specs.Loop.{downto}
+use Rattle.laws.proofs.laws.FloatRound.{below-or-not}
 use Rattle.links.proofs.laws.Links.{lastOf, last-le, last-owner, last-skips, last-link, next-link, links-cong}
 use Rattle.limits.specs.Limits.{trackPlaces, routeLines, soundLines}
 use Rattle.links.specs.Links.{owners, lines, linksOf, lastLine, lineBefore, columnFrom, columnBack}
+use Rattle.chunk.specs.declared.chunk.Chunk.{Chunk}
 use Rattle.chunk.specs.declared.chunk.ChunkTrack.{ChunkTrack}
 use Rattle.chunk.specs.declared.chunk.ChunkRoute.{ChunkRoute}
 use Rattle.chunk.specs.declared.chunk.ChunkSound.{ChunkSound}
 use Rattle.frame.specs.declared.frame.Frame.{Frame}
-use Rattle.chunk.specs.Flat.{routeTracksFrom, soundTracksFrom, chunkFrom, trackFrom, routeFrom, soundFrom}
-use Rattle.chunk.proofs.laws.Flat.{track-from, route-from, sound-from}
-use Rattle.track.specs.Owners.{subTrackLinks, soundLinks, routeLinks}
+use Rattle.chunk.specs.Flat.{routeTracksFrom, soundTracksFrom, soundFromsFrom, framesPlace, trackCountPlace, routeCountPlace, soundCountPlace, column, chunkFrom, trackFrom, routeFrom, soundFrom, placesOf}
+use Rattle.chunk.proofs.laws.Flat.{length-column, column-at, track-from, route-from, sound-from, place-count}
+use Rattle.track.specs.Owners.{subTrackLinks, soundLinks, routeLinks, LinksOf}
 use Rattle.frame.proofs.laws.Turn.{Steps, turns, down-turn, down-done}
-use Rattle.chunk.specs.Chunk.{trackRow, routeRow, soundRow}
+use Rattle.chunk.specs.Chunk.{absentTrackRow, absentRouteRow, absentSoundRow, trackRow, routeRow, soundRow}
 
 -- The loop stands at line k of m, counted from 1: its owner is `line`, and what the loop over all lines still has to do comes to what it began with.
 -- `with` takes a step on each frame of the buffer.
@@ -87,3 +91,77 @@ module _ (places : List ℕ) (levels amplitudes : List Float) where
       let n = c .«route_count» in
       e ∙ links-cong (columnBack places routeTracksFrom n) (λ k. routeRow c (n - (k + 1)) .track) n
       (λ k l. sym (ap (λ (r : ChunkRoute). r .track) (route-from places levels amplitudes (n - (k + 1)) (omega (arith, h, l)))))
+
+-- the three of a chunk that was laid out
+pub links-made : (c : Chunk) {places : List ℕ} (levels amplitudes : List Float) {a b d : List ℕ} → places ≡ placesOf c → c .«track_count» ≤ trackPlaces → c .«sound_count» ≤ soundLines → c .«route_count» ≤ routeLines
+    → a ≡ linksOf (columnFrom places 0) (c .«track_count») → b ≡ linksOf (columnFrom places soundTracksFrom) (c .«sound_count») → d ≡ linksOf (columnBack places routeTracksFrom (c .«route_count»)) (c .«route_count»)
+    → LinksOf (chunkFrom places levels amplitudes) a b d
+links-made c {places} levels amplitudes is t s r ta sb rd =
+    let tracks : getD places trackCountPlace 0 ≡ c .«track_count» = ap (λ (p : List ℕ). getD p trackCountPlace 0) is ∙ place-count c 1 trackCountPlace (omega arith) in
+    let routes : getD places routeCountPlace 0 ≡ c .«route_count» = ap (λ (p : List ℕ). getD p routeCountPlace 0) is ∙ place-count c 3 routeCountPlace (omega arith) in
+    let sounds : getD places soundCountPlace 0 ≡ c .«sound_count» = ap (λ (p : List ℕ). getD p soundCountPlace 0) is ∙ place-count c 4 soundCountPlace (omega arith) in
+    record {
+      subTracks = tracks-linked places levels amplitudes (le-trans (le-of-eq tracks) t) (ta ∙ ap (linksOf (columnFrom places 0)) (sym tracks));
+      sounds = sounds-linked places levels amplitudes (le-trans (le-of-eq sounds) s) (sb ∙ ap (linksOf (columnFrom places soundTracksFrom)) (sym sounds));
+      routes = routes-linked places levels amplitudes (le-trans (le-of-eq routes) r) (rd ∙ ap (λ (n : ℕ). linksOf (columnBack places routeTracksFrom n) n) (sym routes));
+    }
+
+-- ---- tables whose lines have the same owners have the same links
+
+-- a field of two columns' rows, also past their end
+field-same : {A : Type 0} (f g : ℕ → A) (n : ℕ) (d : A) (field : A → ℕ) → ((k : ℕ) → k < n → field (f k) ≡ field (g k)) → (k : ℕ) → field (getD (column f n) k d) ≡ field (getD (column g n) k d)
+field-same f g n d field h k =
+    ⊎-elim
+    (λ (b : k < n). ap field (column-at f n k d b) ∙ h k b ∙ sym (ap field (column-at g n k d b)))
+    (λ (b : n ≤ k). ap field (List·getD-eq-default (column f n) d (le-trans (le-of-eq (length-column f n)) b) ∙ sym (List·getD-eq-default (column g n) d (le-trans (le-of-eq (length-column g n)) b))))
+    (below-or-not k n)
+
+-- All that links read of `places`: whose each track, route and sound is, and how many there are.
+pub record SameOwners (p q : List ℕ) : Type 0 where
+  pub parents : (k : ℕ) → k < trackPlaces → getD p k 0 ≡ getD q k 0
+  pub routeTracks : (k : ℕ) → k < routeLines → getD p (routeTracksFrom + k) 0 ≡ getD q (routeTracksFrom + k) 0
+  pub soundTracks : (k : ℕ) → k < soundLines → getD p (soundTracksFrom + k) 0 ≡ getD q (soundTracksFrom + k) 0
+  pub trackCount : getD p trackCountPlace 0 ≡ getD q trackCountPlace 0
+  pub routeCount : getD p routeCountPlace 0 ≡ getD q routeCountPlace 0
+  pub soundCount : getD p soundCountPlace 0 ≡ getD q soundCountPlace 0
+
+-- the columns before the sounds' recordings, and the counts
+pub owners-before : (p q : List ℕ) → ((i : ℕ) → i < soundFromsFrom → getD p i 0 ≡ getD q i 0) → ((i : ℕ) → framesPlace < i → getD p i 0 ≡ getD q i 0) → SameOwners p q
+owners-before p q before behind =
+    record {
+      parents = λ k b. before k (omega arith);
+      routeTracks = λ k b. before (routeTracksFrom + k) (omega arith);
+      soundTracks = λ k b. before (soundTracksFrom + k) (omega arith);
+      trackCount = behind trackCountPlace (omega arith);
+      routeCount = behind routeCountPlace (omega arith);
+      soundCount = behind soundCountPlace (omega arith);
+    }
+
+module _ (p q : List ℕ) (levels levels' amplitudes amplitudes' : List Float) (same : SameOwners p q) where
+  same-sub-tracks : subTrackLinks (chunkFrom p levels amplitudes) ≡ subTrackLinks (chunkFrom q levels' amplitudes')
+  unfolding subTrackLinks trackFrom
+  same-sub-tracks =
+      let of : ℕ → ℕ = λ k. trackRow (chunkFrom q levels' amplitudes') k .parent in
+      links-cong (λ k. trackRow (chunkFrom p levels amplitudes) k .parent) of (getD p trackCountPlace 0)
+      (λ k b. field-same (trackFrom p levels) (trackFrom q levels') trackPlaces absentTrackRow (λ (t : ChunkTrack). t .parent) (same .parents) k)
+      ∙ ap (linksOf of) (same .trackCount)
+
+  same-sounds : soundLinks (chunkFrom p levels amplitudes) ≡ soundLinks (chunkFrom q levels' amplitudes')
+  unfolding soundLinks soundFrom
+  same-sounds =
+      let of : ℕ → ℕ = λ k. soundRow (chunkFrom q levels' amplitudes') k .track in
+      links-cong (λ k. soundRow (chunkFrom p levels amplitudes) k .track) of (getD p soundCountPlace 0)
+      (λ k b. field-same (soundFrom p) (soundFrom q) soundLines absentSoundRow (λ (s : ChunkSound). s .track) (same .soundTracks) k)
+      ∙ ap (linksOf of) (same .soundCount)
+
+  same-routes : routeLinks (chunkFrom p levels amplitudes) ≡ routeLinks (chunkFrom q levels' amplitudes')
+  unfolding routeLinks routeFrom
+  same-routes =
+      let n = getD p routeCountPlace 0 in
+      links-cong (λ k. routeRow (chunkFrom p levels amplitudes) (n - (k + 1)) .track) (λ k. routeRow (chunkFrom q levels' amplitudes') (n - (k + 1)) .track) n
+      (λ k b. field-same (routeFrom p amplitudes) (routeFrom q amplitudes') routeLines absentRouteRow (λ (r : ChunkRoute). r .track) (same .routeTracks) (n - (k + 1)))
+      ∙ ap (λ (m : ℕ). linksOf (λ k. routeRow (chunkFrom q levels' amplitudes') (m - (k + 1)) .track) m) (same .routeCount)
+
+  -- levels and amplitudes do not matter to links
+  pub links-kept : {a b d : List ℕ} → LinksOf (chunkFrom p levels amplitudes) a b d → LinksOf (chunkFrom q levels' amplitudes') a b d
+  links-kept h = record { subTracks = h .subTracks ∙ same-sub-tracks; sounds = h .sounds ∙ same-sounds; routes = h .routes ∙ same-routes }

@@ -13,12 +13,13 @@ use lib.Ieee.{Float}
 use Rattle.limits.specs.Limits.{sendLines, chunkFramesMost}
 use Rattle.laws.specs.Loop.{upto}
 use Rattle.laws.proofs.laws.Choice.{picks-eq, leaves-eq}
-use Rattle.laws.proofs.laws.Loop.{upto-suc, upto-cong, upto-zero}
+use Rattle.laws.proofs.laws.Loop.{upto-suc, upto-cong, upto-zero, upto-turn}
 use Rattle.frame.specs.declared.frame.Frame.{Frame}
+use Rattle.frame.specs.Frame.{zeroFrame, cleared}
 use Rattle.frame.specs.Layout.{frameAt, withFrames}
 use Rattle.frame.proofs.laws.Layout.{Step, first-length, first-at, first-cong, first-same, first-twice, first-across, first-either, Apart, apart-before, apart-swap}
 use Rattle.frame.proofs.laws.Turn.{Steps}
-use Rattle.track.specs.Send.{sendPart, sendPlaces, sendLayout, onSends}
+use Rattle.track.specs.Send.{sendPart, sendPlaces, sendLayout, onSends, clearedSends}
 
 -- a step on each send track's frames
 abbrev pub SendStep : Type 0
@@ -129,6 +130,31 @@ module _ (n : ℕ) (short : n ≤ chunkFramesMost) where
   pub onSends-at : (f : SendStep) (s i : ℕ) (l : List Float) → s < sendLines → i < n → sendPlaces ≤ length l → frameAt (sendLayout s n) (onSends n f l) i ≡ f (suc s) i (frameAt (sendLayout s n) l i)
   unfolding onSends
   onSends-at f s i l h p r = parts-at f sendLines s i l h (le-refl sendLines) p r
+
+-- ---- the first inputs cleared
+
+module _ (n : ℕ) where
+  clearing : ℕ → List Float → List Float
+  clearing s r = withFrames (sendLayout s n) cleared r
+
+  pub cleared-zero : (l : List Float) → clearedSends n 0 l ≡ l
+  unfolding clearedSends clearing
+  cleared-zero l = upto-zero clearing l
+
+  pub cleared-turn : (s : ℕ) (l : List Float) {now last : List Float} → now ≡ clearedSends n s l → last ≡ withFrames (sendLayout s n) cleared now → last ≡ clearedSends n (s + 1) l
+  unfolding clearedSends clearing
+  cleared-turn s l e q = q ∙ upto-turn clearing s l e
+
+  pub cleared-end : (l : List Float) {s count : ℕ} {now : List Float} → s ≡ count → now ≡ clearedSends n s l → now ≡ clearedSends n count l
+  cleared-end l h e = e ∙ ap (λ (k : ℕ). clearedSends n k l) h
+
+  pub cleared-length : (count : ℕ) (l : List Float) → length (clearedSends n count l) ≡ length l
+  unfolding clearedSends
+  cleared-length count l = parts-length n (λ t. cleared) count l
+
+pub cleared-at : (n : ℕ) → n ≤ chunkFramesMost → (count s i : ℕ) (l : List Float) → s < count → count ≤ sendLines → i < n → sendPlaces ≤ length l → frameAt (sendLayout s n) (clearedSends n count l) i ≡ zeroFrame
+unfolding clearedSends
+cleared-at n short count s i l h w p r = parts-at n short (λ t. cleared) count s i l h w p r
 
 -- ---- a step on one send track
 
