@@ -5,3 +5,4 @@ pub mod SteadyBlocks
 pub mod SteadyChunk
 pub mod Run
 pub mod Turn
+pub mod Linked

@@ -4,11 +4,13 @@ ghost use mathlib.Core.Bool.{cond};
 ghost use Prim.Native.Nat.{_+_, _-_, _*_, _≤_, _<_};
 ghost use lib.ListN.{length, getD};
 ghost use Rattle.recordings.specs.Recordings.{recordings};
-ghost use Rattle.limits.specs.Limits.{channelsMost};
+ghost use Rattle.limits.specs.Limits.{channelsMost, chunkFramesMost};
 ghost use Rattle.gain_table.specs.GainTable.{IsGainTable};
 ghost use Rattle.frame.specs.Layout.{scratch, withFrames};
 ghost use Rattle.chunk.specs.Chunk.{ChunkOk, partsOf};
 ghost use Rattle.track.specs.Mix.{mixedSet};
+ghost use Rattle.track.specs.Owners.{LinksOf};
+ghost use Rattle.track.specs.Send.{sendPlaces};
 ghost use Rattle.renderer.specs.Renderer.{chunkCount, chunkFrames};
 ghost use Rattle.chunk.specs.Flat.{placesSize, soundCountPlace, chunkFrom};
 ghost use Rattle.steady_blocks.specs.Advance.{framed, advanced, TracksThere};
@@ -21,7 +23,7 @@ use chunk::Places;
 use clock::Clocks;
 use gain_table::GainTable;
 use level_amplitudes::Parts;
-use limits::CHUNK_FRAMES;
+use links::Links;
 use scene::Head;
 use track::process_flat;
 
@@ -30,18 +32,24 @@ fn mix_chunk<'a>(
     places: &Places,
     levels: &Levels,
     amplitudes: &Amplitudes,
+    sub_tracks: &Links,
+    sounds: &Links,
+    routes: &Links,
     full: &Parts,
     last: &Parts,
     ends: bool,
     table: &GainTable,
     samples: &'a [f32],
     visitor: &'a [f32],
+    sends: &mut [f32],
     mix: &mut [f32],
 )
     requires { ⌜ IsGainTable (now table) ⌝ }
     requires { ⌜ ChunkOk (chunkFrom (now places) (now levels) (now amplitudes)) (recordings (now samples) (now visitor)) ⌝ }
     requires { ⌜ cond ends (now last) (now full) ≡ partsOf (chunkFrom (now places) (now levels) (now amplitudes) .frames) ⌝ }
     requires { ⌜ 2 * chunkFrom (now places) (now levels) (now amplitudes) .frames ≤ length (now mix) ⌝ }
+    requires { ⌜ LinksOf (chunkFrom (now places) (now levels) (now amplitudes)) (now «sub_tracks») (now sounds) (now routes) ⌝ }
+    requires { ⌜ length (now sends) ≡ sendPlaces ⌝ }
     ensures { λ _. ⌜ (let c = chunkFrom (now (places .entry)) (now (levels .entry)) (now (amplitudes .entry)) in
         now (mix .exit) ≡ withFrames (scratch 0 (c .frames)) (mixedSet c (recordings (now (samples .entry)) (now (visitor .entry)))) (now (mix .entry))) ⌝ }
 {
@@ -50,10 +58,14 @@ fn mix_chunk<'a>(
             places,
             levels,
             amplitudes,
+            sub_tracks,
+            sounds,
+            routes,
             last,
             table,
             samples,
             visitor,
+            sends,
             mix,
         );
     } else {
@@ -61,20 +73,28 @@ fn mix_chunk<'a>(
             places,
             levels,
             amplitudes,
+            sub_tracks,
+            sounds,
+            routes,
             full,
             table,
             samples,
             visitor,
+            sends,
             mix,
         );
     }
 }
 
-// A chunk: its frames are mixed, and then the sounds have played them.
+// A chunk: its frames are mixed, and then the sounds have played them. `sends` and `mix` are room to
+// mix in: what they held does not matter.
 fn steady_chunk<'a>(
     places: &mut Places,
     levels: &Levels,
     amplitudes: &Amplitudes,
+    sub_tracks: &Links,
+    sounds: &Links,
+    routes: &Links,
     full: &Parts,
     last: &Parts,
     ends: bool,
@@ -83,6 +103,8 @@ fn steady_chunk<'a>(
     table: &GainTable,
     samples: &'a [f32],
     visitor: &'a [f32],
+    sends: &mut [f32],
+    mix: &mut [f32],
     out: &mut [f32],
 )
     requires { ⌜ IsGainTable (now table) ⌝ }
@@ -92,26 +114,31 @@ fn steady_chunk<'a>(
     requires { ⌜ cond ends (now last) (now full) ≡ partsOf frames ⌝ }
     requires { ⌜ (1 ≤ channels) × (channels ≤ channelsMost) ⌝ }
     requires { ⌜ length (now out) ≡ frames * channels ⌝ }
+    requires { ⌜ LinksOf (chunkFrom (now places) (now levels) (now amplitudes)) (now «sub_tracks») (now sounds) (now routes) ⌝ }
+    requires { ⌜ (length (now sends) ≡ sendPlaces) × (length (now mix) ≡ 2 * chunkFramesMost) ⌝ }
     ensures places { λ _. ⌜ now (places .exit) ≡ advanced frames (framed frames (now (places .entry))) ⌝ }
     ensures samples { λ _. ⌜ (let c = chunkFrom (framed frames (now (places .entry))) (now (levels .entry)) (now (amplitudes .entry)) in
         let heard = recordings (now (samples .entry)) (now (visitor .entry)) in
         now (out .exit) ≡ mixedSamples channels frames c heard) ⌝ }
 {
     places[FRAMES] = frames;
-    let mut mix = [0.0f32; 2 * CHUNK_FRAMES];
     mix_chunk(
         places,
         levels,
         amplitudes,
+        sub_tracks,
+        sounds,
+        routes,
         full,
         last,
         ends,
         table,
         samples,
         visitor,
-        &mut mix,
+        sends,
+        mix,
     );
-    renderer::write_frames(out, channels, &mix, frames);
+    renderer::write_frames(out, channels, mix, frames);
     advance(places, frames);
 }
 
@@ -125,8 +152,13 @@ pub fn steady_block<'a>(
     samples: &'a [f32],
     visitor: &'a [f32],
     table: &GainTable,
+    sub_tracks: &Links,
+    sounds: &Links,
+    routes: &Links,
     full: &Parts,
     last: &Parts,
+    sends: &mut [f32],
+    mix: &mut [f32],
     out: &mut [f32],
 ) -> Clocks
     requires { ⌜ IsGainTable (now table) ⌝ }
@@ -134,6 +166,8 @@ pub fn steady_block<'a>(
     requires { ⌜ now full ≡ partsOf (head .buffer) ⌝ }
     requires { ⌜ now last ≡ partsOf (chunkFrames head (chunkCount head - 1)) ⌝ }
     requires { ⌜ length (now out) ≡ head .block * head .channels ⌝ }
+    requires { ⌜ LinksOf (chunkFrom (now places) (now levels) (now amplitudes)) (now «sub_tracks») (now sounds) (now routes) ⌝ }
+    requires { ⌜ (length (now sends) ≡ sendPlaces) × (length (now mix) ≡ 2 * chunkFramesMost) ⌝ }
     ensures clocks { λ r. ⌜ r ≡ stillClocks head (chunkCount head) clocks ⌝ }
     ensures places { λ _. ⌜ now (places .exit) ≡ stillPlaces head (chunkCount head) (now (places .entry)) ⌝ }
     ensures samples { λ _. ⌜ now (out .exit) ≡ stillSamples head
@@ -152,6 +186,9 @@ pub fn steady_block<'a>(
             places,
             levels,
             amplitudes,
+            sub_tracks,
+            sounds,
+            routes,
             full,
             last,
             ends,
@@ -160,6 +197,8 @@ pub fn steady_block<'a>(
             table,
             samples,
             visitor,
+            sends,
+            mix,
             &mut out[from..to],
         );
         moved = moved.update(renderer::chunk_seconds(head.rate, frames));

@@ -14,16 +14,23 @@ ghost use Rattle.steady_mixer.specs.Steady.{afterRun};
 ghost use Rattle.steady_blocks.specs.SteadyBlock.{blocksRun, nearerBlock, nextOrders, playedBy, RunOk};
 use crate::block::steady_block;
 use chunk::LEVELS;
+use chunk::PARENTS;
 use chunk::PLACES;
 use chunk::Places;
+use chunk::ROUTE_TRACKS;
 use chunk::SOUND_LEFTS;
+use chunk::SOUND_TRACKS;
 use clock::Clocks;
 use gain_table::GainTable;
 use level_amplitudes::Parts;
+use limits::CHUNK_FRAMES;
 use limits::ROUTE_LINES;
 use limits::SOUND_LINES;
+use links::links_back;
+use links::links_of;
 use mixer::Mixer;
 use scene::Scene;
+use track::SEND_PLACES;
 
 // The mixer before `block`, whose orders are not read yet.
 pub struct Run {
@@ -95,7 +102,7 @@ fn with_run(mixer: Mixer, clocks: Clocks, played: [usize; SOUND_LINES]) -> Mixer
     }
 }
 
-// From block `first` on, whose orders are read.
+// From block `first` on, whose orders are read. Tables, links and room are made once for all of it.
 pub fn steady_blocks<'a>(
     mixer: Mixer,
     scene: Scene,
@@ -125,6 +132,11 @@ pub fn steady_blocks<'a>(
     let mut levels = [0.0f32; LEVELS];
     let mut amplitudes = [0.0f32; ROUTE_LINES];
     chunk::flatten(chunk, &mut places, &mut levels, &mut amplitudes);
+    let sub_tracks = links_of(&places, PARENTS, chunk.track_count);
+    let sounds = links_of(&places, SOUND_TRACKS, chunk.sound_count);
+    let routes = links_back(&places, ROUTE_TRACKS, chunk.route_count);
+    let mut sends = [0.0f32; SEND_PLACES];
+    let mut mix = [0.0f32; 2 * CHUNK_FRAMES];
     let end = next_orders(scene, first);
     let count = end - first;
     let mut clocks = mixer.clocks;
@@ -141,8 +153,13 @@ pub fn steady_blocks<'a>(
             samples,
             visitor,
             table,
+            &sub_tracks,
+            &sounds,
+            &routes,
             full,
             last,
+            &mut sends,
+            &mut mix,
             &mut out[from..to],
         );
         j += 1;
