@@ -98,7 +98,8 @@ fn process_tracks<'a>(
     }
 }
 
-// Adds the send tracks' scaled frames, latest line first.
+// Adds the send tracks' scaled frames, latest line first. The count is read anew for each: of parts
+// that are seen to come one before the other the compiler makes no vectors.
 fn add_sends<'a>(
     places: &Places,
     levels: &Levels,
@@ -119,12 +120,14 @@ fn add_sends<'a>(
         now (out .exit) ≡ withFrames (scratch 0 (c .frames)) (withSendTracks c (now (sends .entry))) (now (out .entry))) ⌝ }
 {
     let frames = places[FRAMES];
-    let mut s = places[SEND_COUNT];
-    while 0 < s {
-        s -= 1;
+    let count = places[SEND_COUNT];
+    let mut done = 0;
+    while done < count {
+        let s = places[SEND_COUNT] - 1 - done;
         let level = send_at(places, levels, amplitudes, s);
         let first = s * SEND_PART;
         add_send(out, sends, first, level, frames, parts, table);
+        done += 1;
     }
 }
 
