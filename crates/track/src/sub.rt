@@ -1,21 +1,22 @@
 // kira's track/sub.rs: a track's frames, and what it and the tracks below it add to the send tracks.
 ghost use mathlib.Core.Path.{_≡_};
-ghost use Prim.Native.Nat.{_*_, _≤_};
+ghost use Prim.Native.Nat.{_-_, _*_, _≤_};
 ghost use lib.ListN.{length};
 ghost use Rattle.recordings.specs.Recordings.{recordings};
 ghost use Rattle.limits.specs.Limits.{trackPlaces};
 ghost use Rattle.gain_table.specs.GainTable.{IsGainTable};
 ghost use Rattle.frame.specs.Frame.{addedFrom};
 ghost use Rattle.frame.specs.Layout.{scratch, frameAt, withFrames};
-ghost use Rattle.chunk.specs.Chunk.{ChunkOk, partsOf};
+ghost use Rattle.chunk.specs.Chunk.{ChunkOk, partsOf, trackRow};
 ghost use Rattle.chunk.specs.Flat.{chunkFrom};
 ghost use Rattle.track.specs.Owners.{subTrackLinks, soundLinks, routeLinks};
 ghost use Rattle.frame.specs.Running.{AllRunning, AllZero};
-ghost use Rattle.track.specs.Sub.{trackFrame, withTrackSends, withSubSends, sumSet, withRoutesFrom};
+ghost use Rattle.track.specs.Sub.{trackFrame, withTrackSends, withSubSends, sumSet, withRoutesFrom, trackPlacedScaled};
 ghost use Rattle.track.specs.Send.{sendPlaces, onSends};
 use crate::send::SEND_PART;
-use crate::sounds::add_sounds;
+use crate::sounds::add_sounds_and_scale;
 use chunk::Amplitudes;
+use chunk::ChunkTrack;
 use chunk::FRAMES;
 use chunk::Levels;
 use chunk::Places;
@@ -31,7 +32,6 @@ use limits::CHUNK_FRAMES;
 use links::Links;
 use links::last_line;
 use links::line_before;
-use track_volume::apply_placing_and_volume;
 
 // What a chunk's frames are mixed in.
 pub const SCRATCH: usize = 2 * CHUNK_FRAMES;
@@ -83,9 +83,8 @@ fn hand_on<'a>(
     add_to_both(to, sends, first, out, frames, amplitude);
 }
 
-// Leaves in `out`, whose frames are zeros, the frames of track `line`, counted from 1, before its
-// placing, and adds to the send tracks what the tracks below it send. `depth` is how many levels of
-// tracks are left below it.
+// Leaves in `out`, whose frames are zeros, the frames of track `line`, counted from 1, and adds to the
+// send tracks what the tracks below it send. `depth` is how many levels of tracks are left below it.
 fn gather<'a>(
     places: &Places,
     levels: &Levels,
@@ -99,6 +98,7 @@ fn gather<'a>(
     visitor: &'a [f32],
     line: usize,
     depth: usize,
+    track: ChunkTrack,
     out: &mut [f32],
     sends: &mut [f32],
 )
@@ -111,9 +111,11 @@ fn gather<'a>(
     requires { ⌜ (let c = chunkFrom (now places) (now levels) (now amplitudes) in 2 * c .frames ≤ length (now out)) ⌝ }
     requires { ⌜ length (now sends) ≡ sendPlaces ⌝ }
     requires { ⌜ (let c = chunkFrom (now places) (now levels) (now amplitudes) in AllZero (c .frames) (now out)) ⌝ }
+    requires { ⌜ (let c = chunkFrom (now places) (now levels) (now amplitudes) in track ≡ trackRow c (line - 1)) ⌝ }
     ensures sum { λ _. ⌜ (let c = chunkFrom (now (places .entry)) (now (levels .entry)) (now (amplitudes .entry)) in
         let heard = recordings (now (samples .entry)) (now (visitor .entry)) in
-        now (out .exit) ≡ withFrames (scratch 0 (c .frames)) (sumSet depth c heard line) (now (out .entry))) ⌝ }
+        now (out .exit) ≡ withFrames (scratch 0 (c .frames)) (trackPlacedScaled track (c .frames))
+        (withFrames (scratch 0 (c .frames)) (sumSet depth c heard line) (now (out .entry)))) ⌝ }
     ensures sends { λ _. ⌜ (let c = chunkFrom (now (places .entry)) (now (levels .entry)) (now (amplitudes .entry)) in
         let heard = recordings (now (samples .entry)) (now (visitor .entry)) in
         now (sends .exit) ≡ onSends (c .frames) (withSubSends depth c heard line) (now (sends .entry))) ⌝ }
@@ -138,20 +140,23 @@ fn gather<'a>(
         );
         j = line_before(sub_tracks, j);
     }
-    add_sounds(
+    add_sounds_and_scale(
         out,
+        track,
         samples,
         visitor,
         places,
         levels,
         amplitudes,
+        parts,
+        table,
         sounds,
         line,
     );
 }
 
 // Adds the frames of track `line`, counted from 1, onto the sum `to`, and to the send tracks what it
-// and the tracks below it send: its sum is gathered, and scaled after. `depth` is how many levels of
+// and the tracks below it send: its frames are gathered, and handed on. `depth` is how many levels of
 // tracks are left. The sum began at +0.0: it is never -0.0, so that a track which stands still need
 // not add its zeros.
 pub fn process<'a>(
@@ -186,7 +191,6 @@ pub fn process<'a>(
         let heard = recordings (now (samples .entry)) (now (visitor .entry)) in
         now (sends .exit) ≡ onSends (c .frames) (withTrackSends depth c heard line) (now (sends .entry))) ⌝ }
 {
-    let frames = places[FRAMES];
     let track = track_at(places, levels, amplitudes, line - 1);
     if depth == 0 {
         return;
@@ -208,10 +212,10 @@ pub fn process<'a>(
         visitor,
         line,
         depth - 1,
+        track,
         &mut out,
         sends,
     );
-    apply_placing_and_volume(&mut out, track, frames, parts, table);
     hand_on(
         to,
         sends,

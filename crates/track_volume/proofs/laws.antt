@@ -1,2 +1,3 @@
 pub mod Steady
 pub mod Placing
+pub mod Sounds

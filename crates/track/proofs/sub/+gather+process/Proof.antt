@@ -1,5 +1,5 @@
--- A track's recursion: `gather` leaves the track's sum, by a loop that follows the links of the tracks below it and calls `process` for each, and
--- `process` scales what was gathered, sends it and adds it. Each call goes one level down, or from a track to what is below it: the measure is twice the
+-- A track's recursion: `gather` leaves the track's frames, by a loop that follows the links of the tracks below it and calls `process` for each, and
+-- `process` sends what was gathered and adds it. Each call goes one level down, or from a track to what is below it: the measure is twice the
 -- levels left, and one more in `gather`.
 use mathlib.Core.Path.{_≡_, refl, sym, ap, _∙_, subst}
 use mathlib.Core.List.{List}
@@ -41,9 +41,8 @@ use Rattle.track.proofs.sub.+gather+process.Lts-process as process-lts
 use Rattle.chunk.proofs.track_at.Reads as track-at-reads
 use Rattle.links.proofs.last_line.Reads as last-line-reads
 use Rattle.links.proofs.line_before.Reads as line-before-reads
-use Rattle.track.proofs.sounds.add_sounds.Reads as add-sounds-reads
+use Rattle.track.proofs.sounds.add_sounds_and_scale.Reads as add-sounds-and-scale-reads
 use Rattle.track.proofs.sub.hand_on.Reads as hand-on-reads
-use Rattle.track_volume.proofs.apply_placing_and_volume.Reads as apply-placing-and-volume-reads
 use Rattle.track.proofs.sub.+gather+process.{statement}
 use Rattle.track.proofs.sub.+gather+process.Tie.{close}
 
@@ -84,11 +83,11 @@ abbrev process-below : ℕ → In 11 process-kinds.ps
 process-below t = and 11 process-kinds.ps (falls 11 process-kinds.ps _<_ μ-process t) process.Pre
 
 abbrev gather-Inv-loop : gather-lts.InvT-loop
-gather-Inv-loop places levels amplitudes sub-tracks sounds routes parts table samples visitor line depth out₀ sends₀ j₀ out sends j =
+gather-Inv-loop places levels amplitudes sub-tracks sounds routes parts table samples visitor line depth track out₀ sends₀ j₀ out sends j =
     Inv (chunkFrom places levels amplitudes) (recordings samples visitor) line depth out₀ sends₀ out sends j
 
 abbrev gather-μ-loop : gather-lts.MeasureT-loop
-gather-μ-loop places levels amplitudes sub-tracks sounds routes parts table samples visitor line depth out₀ sends₀ j₀ out sends j =
+gather-μ-loop places levels amplitudes sub-tracks sounds routes parts table samples visitor line depth track out₀ sends₀ j₀ out sends j =
     j
 
 gather-last-line-requires : (t : ℕ) → gather-lts.Need-last-line-requires (
@@ -98,8 +97,8 @@ gather-last-line-requires : (t : ℕ) → gather-lts.Need-last-line-requires (
   process.Post,
   line-before-reads.Asked,
   line-before-reads.Learnt,
-  add-sounds-reads.Asked,
-  add-sounds-reads.Learnt,
+  add-sounds-and-scale-reads.Asked,
+  add-sounds-and-scale-reads.Learnt,
 ) (gather-at t) gather.Post gather-Inv-loop gather-μ-loop
 gather-last-line-requires t c κs = omega (arith, c .before .before .before .before .pre .1 .1 .1 .1 .1 .0 .1, c .before .before .before .before .pre .1 .1 .0 .tracks)
 
@@ -110,8 +109,8 @@ gather-loop-holds : (t : ℕ) → gather-lts.Need-loop-holds (
   process.Post,
   line-before-reads.Asked,
   line-before-reads.Learnt,
-  add-sounds-reads.Asked,
-  add-sounds-reads.Learnt,
+  add-sounds-and-scale-reads.Asked,
+  add-sounds-and-scale-reads.Learnt,
 ) (gather-at t) gather.Post gather-Inv-loop gather-μ-loop
 unfolding subTrackLinks
 gather-loop-holds t c =
@@ -132,7 +131,7 @@ gather-loop-holds t c =
       refl,
       follow-start (withFrames L) (subStep d chunk samples line) (chunk .«track_count») (parent chunk) line out (sub-left d chunk samples line) few owned (c .last-line .ensures),
       follow-start (allSends n) (subSend d chunk samples line) (chunk .«track_count») (parent chunk) line sends (send-left d chunk samples line) few owned (c .last-line .ensures),
-      running-silent n out (start .pre .1 .1 .1 .1 .1 .1 .1 .1),
+      running-silent n out (start .pre .1 .1 .1 .1 .1 .1 .1 .1 .0),
     )
 
 gather-process-requires : (t : ℕ) → gather-lts.Need-process-requires (
@@ -142,8 +141,8 @@ gather-process-requires : (t : ℕ) → gather-lts.Need-process-requires (
   process.Post,
   line-before-reads.Asked,
   line-before-reads.Learnt,
-  add-sounds-reads.Asked,
-  add-sounds-reads.Learnt,
+  add-sounds-and-scale-reads.Asked,
+  add-sounds-and-scale-reads.Learnt,
 ) (gather-at t) gather.Post gather-Inv-loop gather-μ-loop
 gather-process-requires t c κs =
     let start = c .before .before .before .before .before .before .before .before .before in
@@ -160,8 +159,8 @@ gather-line-before-requires : (t : ℕ) → gather-lts.Need-line-before-requires
   process.Post,
   line-before-reads.Asked,
   line-before-reads.Learnt,
-  add-sounds-reads.Asked,
-  add-sounds-reads.Learnt,
+  add-sounds-and-scale-reads.Asked,
+  add-sounds-and-scale-reads.Learnt,
 ) (gather-at t) gather.Post gather-Inv-loop gather-μ-loop
 gather-line-before-requires t c κs = (c .before .before .before .before .before .before .before .loop-test .taken, omega (arith, c .before .before .before .before .before .before .before .before .loop .inv .2 .few, c .before .before .before .before .before .before .before .before .before .before .before .before .before .before .pre .1 .1 .0 .tracks))
 
@@ -172,8 +171,8 @@ gather-loop-less : (t : ℕ) → gather-lts.Need-loop-less (
   process.Post,
   line-before-reads.Asked,
   line-before-reads.Learnt,
-  add-sounds-reads.Asked,
-  add-sounds-reads.Learnt,
+  add-sounds-and-scale-reads.Asked,
+  add-sounds-and-scale-reads.Learnt,
 ) (gather-at t) gather.Post gather-Inv-loop gather-μ-loop
 unfolding subTrackLinks
 gather-loop-less t c =
@@ -203,8 +202,8 @@ gather-loop-again : (t : ℕ) → gather-lts.Need-loop-again (
   process.Post,
   line-before-reads.Asked,
   line-before-reads.Learnt,
-  add-sounds-reads.Asked,
-  add-sounds-reads.Learnt,
+  add-sounds-and-scale-reads.Asked,
+  add-sounds-and-scale-reads.Learnt,
 ) (gather-at t) gather.Post gather-Inv-loop gather-μ-loop
 unfolding subTrackLinks
 gather-loop-again t c =
@@ -239,20 +238,28 @@ gather-loop-again t c =
       running-track n (l .loop .out) (omega (arith, inv .0, start .pre .1 .1 .1 .1 .1 .1 .0)) d chunk samples j (inv .4) (made .0),
     )
 
-gather-add-sounds-requires : (t : ℕ) → gather-lts.Need-add-sounds-requires (
+gather-add-sounds-and-scale-requires : (t : ℕ) → gather-lts.Need-add-sounds-and-scale-requires (
   last-line-reads.Asked,
   last-line-reads.Learnt,
   process-below t,
   process.Post,
   line-before-reads.Asked,
   line-before-reads.Learnt,
-  add-sounds-reads.Asked,
-  add-sounds-reads.Learnt,
+  add-sounds-and-scale-reads.Asked,
+  add-sounds-and-scale-reads.Learnt,
 ) (gather-at t) gather.Post gather-Inv-loop gather-μ-loop
-gather-add-sounds-requires t c κs =
+gather-add-sounds-and-scale-requires t c κs =
     let start = c .before .before .before .before .before .before .before .before in
-    let ok = start .pre .1 .1 .0 in
-    (ok, (start .pre .1 .1 .1 .0 .1, (omega (arith, c .before .before .loop .inv .0, start .pre .1 .1 .1 .1 .1 .1 .0), omega (arith, start .pre .1 .1 .1 .1 .1 .0 .1, ok .tracks))))
+    let args = start .args in
+    let chunk = chunkFrom (args .places .now) (args .levels .now) (args .amplitudes .now) in
+    let pre = start .pre .1 in
+    let ok = pre .1 .0 in
+    let lines = start .pre .1 .1 .1 .1 .1 .0 in
+    let row = sym (start .pre .1 .1 .1 .1 .1 .1 .1 .1 .1) in
+    let here : args .line - 1 < chunk .«track_count» = omega (arith, lines .0, lines .1) in
+    let level : (f : ChunkTrack → Level) → LevelInRange (f (trackRow chunk (args .line - 1))) → LevelInRange (f (args .track)) = λ f. subst (λ (t : ChunkTrack). LevelInRange (f t)) row in
+    let placing : PlacingIn (trackRow chunk (args .line - 1) .placing) → PlacingIn (args .track .placing) = subst (λ (t : ChunkTrack). PlacingIn (t .placing)) row in
+    (pre .0, (ok, (pre .1 .1 .0 .1, (pre .1 .1 .1 .0, (omega (arith, c .before .before .loop .inv .0, start .pre .1 .1 .1 .1 .1 .1 .0), ((level (λ t. t .volume) (ok .volumes (args .line - 1) here), level (λ t. t .fade) (ok .fades (args .line - 1) here)), (placing (ok .placings (args .line - 1) here), omega (arith, lines .1, ok .tracks))))))))
 
 gather-same-length : (t : ℕ) → gather-lts.Need-same-length (
   last-line-reads.Asked,
@@ -261,8 +268,8 @@ gather-same-length : (t : ℕ) → gather-lts.Need-same-length (
   process.Post,
   line-before-reads.Asked,
   line-before-reads.Learnt,
-  add-sounds-reads.Asked,
-  add-sounds-reads.Learnt,
+  add-sounds-and-scale-reads.Asked,
+  add-sounds-and-scale-reads.Learnt,
 ) (gather-at t) gather.Post gather-Inv-loop gather-μ-loop
 gather-same-length t c = search needs
 
@@ -273,8 +280,8 @@ gather-same-length-2 : (t : ℕ) → gather-lts.Need-same-length-2 (
   process.Post,
   line-before-reads.Asked,
   line-before-reads.Learnt,
-  add-sounds-reads.Asked,
-  add-sounds-reads.Learnt,
+  add-sounds-and-scale-reads.Asked,
+  add-sounds-and-scale-reads.Learnt,
 ) (gather-at t) gather.Post gather-Inv-loop gather-μ-loop
 gather-same-length-2 t c = search needs
 
@@ -285,8 +292,8 @@ gather-returns : (t : ℕ) → gather-lts.Need-returns (
   process.Post,
   line-before-reads.Asked,
   line-before-reads.Learnt,
-  add-sounds-reads.Asked,
-  add-sounds-reads.Learnt,
+  add-sounds-and-scale-reads.Asked,
+  add-sounds-and-scale-reads.Learnt,
 ) (gather-at t) gather.Post gather-Inv-loop gather-μ-loop
 gather-returns t c =
     let start = c .before .before .before .before .before .before .before .before .before .before .before in
@@ -303,44 +310,29 @@ gather-returns t c =
     let sends = args .sends .now in
     let under = follow-done (withFrames L) (subStep d chunk samples line) (chunk .«track_count») (parent chunk) line out (frames-steps L) (omega (arith, start .pre .1 .1 .1 .1 .1 .1 .0)) (omega (arith, c .before .before .before .before .loop-test .left)) (inv .2) ∙ sub-done d chunk samples line out in
     let sent = follow-done (allSends n) (subSend d chunk samples line) (chunk .«track_count») (parent chunk) line sends (sends-steps n (ok .short)) (omega (arith, start .pre .1 .1 .1 .1 .1 .1 .1 .0)) (omega (arith, c .before .before .before .before .loop-test .left)) (inv .3) ∙ send-done d chunk samples line sends in
-    (sum-gathered d chunk samples line out (start .pre .1 .1 .1 .1 .1 .1 .0) (start .pre .1 .1 .1 .1 .1 .1 .1 .1) under (c .before .before .add-sounds .ensures), sent)
-
-process-element-copy-out-frames : (t : ℕ) → process-lts.Need-element-copy-out-frames (
-  track-at-reads.Asked,
-  track-at-reads.Learnt,
-  gather-below t,
-  gather.Post,
-  apply-placing-and-volume-reads.Asked,
-  apply-placing-and-volume-reads.Learnt,
-  hand-on-reads.Asked,
-  hand-on-reads.Learnt,
-) (process-at t) process.Post
-process-element-copy-out-frames t c = search needs
+    let heard = sum-gathered d chunk samples line out (start .pre .1 .1 .1 .1 .1 .1 .0) (start .pre .1 .1 .1 .1 .1 .1 .1 .1 .0) under refl in
+    (c .before .before .add-sounds-and-scale .ensures ∙ ap (withFrames L (trackPlacedScaled (args .track) n)) heard, sent)
 
 process-sub-track-at : (t : ℕ) → process-lts.Need-sub-track-at (
   track-at-reads.Asked,
   track-at-reads.Learnt,
   gather-below t,
   gather.Post,
-  apply-placing-and-volume-reads.Asked,
-  apply-placing-and-volume-reads.Learnt,
   hand-on-reads.Asked,
   hand-on-reads.Learnt,
 ) (process-at t) process.Post
-process-sub-track-at t c = c .before .before .before .before .before .pre .1 .1 .1 .1 .1 .0 .0
+process-sub-track-at t c = c .before .before .before .before .pre .1 .1 .1 .1 .1 .0 .0
 
 process-track-at-requires : (t : ℕ) → process-lts.Need-track-at-requires (
   track-at-reads.Asked,
   track-at-reads.Learnt,
   gather-below t,
   gather.Post,
-  apply-placing-and-volume-reads.Asked,
-  apply-placing-and-volume-reads.Learnt,
   hand-on-reads.Asked,
   hand-on-reads.Learnt,
 ) (process-at t) process.Post
 process-track-at-requires t c κs =
-    let start = c .before .before .before .before .before in
+    let start = c .before .before .before .before in
     omega (arith, start .pre .1 .1 .1 .1 .1 .0 .0, start .pre .1 .1 .1 .1 .1 .0 .1, start .pre .1 .1 .0 .tracks)
 
 process-returns : (t : ℕ) → process-lts.Need-returns (
@@ -348,13 +340,11 @@ process-returns : (t : ℕ) → process-lts.Need-returns (
   track-at-reads.Learnt,
   gather-below t,
   gather.Post,
-  apply-placing-and-volume-reads.Asked,
-  apply-placing-and-volume-reads.Learnt,
   hand-on-reads.Asked,
   hand-on-reads.Learnt,
 ) (process-at t) process.Post
 process-returns t c =
-    let start = c .before .before .before .before .before .before .before in
+    let start = c .before .before .before .before .before .before in
     let args = start .args in
     let chunk = chunkFrom (args .places .now) (args .levels .now) (args .amplitudes .now) in
     let samples = recordings (args .samples .now) (args .visitor .now) in
@@ -370,13 +360,11 @@ process-returns-2 : (t : ℕ) → process-lts.Need-returns-2 (
   track-at-reads.Learnt,
   gather-below t,
   gather.Post,
-  apply-placing-and-volume-reads.Asked,
-  apply-placing-and-volume-reads.Learnt,
   hand-on-reads.Asked,
   hand-on-reads.Learnt,
 ) (process-at t) process.Post
 process-returns-2 t c =
-    let start = c .before .before .before .before .before .before .before .before .before in
+    let start = c .before .before .before .before .before .before .before .before in
     let args = start .args in
     let chunk = chunkFrom (args .places .now) (args .levels .now) (args .amplitudes .now) in
     let samples = recordings (args .samples .now) (args .visitor .now) in
@@ -394,8 +382,6 @@ process-sub-gather : (t : ℕ) → process-lts.Need-sub-gather (
   track-at-reads.Learnt,
   gather-below t,
   gather.Post,
-  apply-placing-and-volume-reads.Asked,
-  apply-placing-and-volume-reads.Learnt,
   hand-on-reads.Asked,
   hand-on-reads.Learnt,
 ) (process-at t) process.Post
@@ -406,8 +392,6 @@ process-slice-aggregate-gather : (t : ℕ) → process-lts.Need-slice-aggregate-
   track-at-reads.Learnt,
   gather-below t,
   gather.Post,
-  apply-placing-and-volume-reads.Asked,
-  apply-placing-and-volume-reads.Learnt,
   hand-on-reads.Asked,
   hand-on-reads.Learnt,
 ) (process-at t) process.Post
@@ -418,68 +402,23 @@ process-gather-requires : (t : ℕ) → process-lts.Need-gather-requires (
   track-at-reads.Learnt,
   gather-below t,
   gather.Post,
-  apply-placing-and-volume-reads.Asked,
-  apply-placing-and-volume-reads.Learnt,
   hand-on-reads.Asked,
   hand-on-reads.Learnt,
 ) (process-at t) process.Post
 unfolding ofBits ofInt
 process-gather-requires t c κs =
-    let start = c .before .before .before .before .before .before .before .before .before .before .before in
+    let start = c .before .before .before .before .before .before .before .before .before .before in
     let args = start .args in
     let chunk = chunkFrom (args .places .now) (args .levels .now) (args .amplitudes .now) in
     let pre = start .pre .1 in
     let ok = pre .1 .0 in
-    (omega (arith, start .pre .0, c .before .before .before .before .if1 .left), (pre .0, (ok, (pre .1 .1 .0, (pre .1 .1 .1 .0, (start .pre .1 .1 .1 .1 .1 .0, (omega (arith, ok .short), (start .pre .1 .1 .1 .1 .1 .1 .1 .0, zero-silent scratchPlaces (chunk .frames) (omega (arith, ok .short))))))))))
-
-process-slice-aggregate-apply-placing-and-volume : (t : ℕ) → process-lts.Need-slice-aggregate-apply-placing-and-volume (
-  track-at-reads.Asked,
-  track-at-reads.Learnt,
-  gather-below t,
-  gather.Post,
-  apply-placing-and-volume-reads.Asked,
-  apply-placing-and-volume-reads.Learnt,
-  hand-on-reads.Asked,
-  hand-on-reads.Learnt,
-) (process-at t) process.Post
-process-slice-aggregate-apply-placing-and-volume t c = search needs
-
-process-apply-placing-and-volume-requires : (t : ℕ) → process-lts.Need-apply-placing-and-volume-requires (
-  track-at-reads.Asked,
-  track-at-reads.Learnt,
-  gather-below t,
-  gather.Post,
-  apply-placing-and-volume-reads.Asked,
-  apply-placing-and-volume-reads.Learnt,
-  hand-on-reads.Asked,
-  hand-on-reads.Learnt,
-) (process-at t) process.Post
-unfolding ofBits ofInt
-process-apply-placing-and-volume-requires t c κs =
-    let start = c .before .before .before .before .before .before .before .before .before .before .before .before .before .before .before .before in
-    let args = start .args in
-    let chunk = chunkFrom (args .places .now) (args .levels .now) (args .amplitudes .now) in
-    let samples = recordings (args .samples .now) (args .visitor .now) in
-    let n = chunk .frames in
-    let L = scratch 0 n in
-    let line = args .line in
-    let ok = start .pre .1 .1 .0 in
-    let d = args .depth - 1 in
-    let made = c .before .before .before .before .gather .ensures in
-    let track = c .before .before .before .before .before .before .before .before .before .before .track-at .result in
-    let gathered = kept L (sumSet d chunk samples line) n silent (made .0) in
-    let lines = start .pre .1 .1 .1 .1 .1 .0 in
-    let level : (f : ChunkTrack → Level) → LevelInRange (f (trackRow chunk (line - 1))) → LevelInRange (f track) = λ f. subst (λ (t : ChunkTrack). LevelInRange (f t)) (sym (c .before .before .before .before .before .before .before .before .before .before .track-at .ensures)) in
-    let placing : PlacingIn (trackRow chunk (line - 1) .placing) → PlacingIn (track .placing) = subst (λ (t : ChunkTrack). PlacingIn (t .placing)) (sym (c .before .before .before .before .before .before .before .before .before .before .track-at .ensures)) in
-    (start .pre .1 .0, ((ok .short, omega (arith, gathered, ok .short)), ((level (λ t. t .volume) (ok .volumes (line - 1) (omega (arith, lines .0, lines .1))), level (λ t. t .fade) (ok .fades (line - 1) (omega (arith, lines .0, lines .1)))), (placing (ok .placings (line - 1) (omega (arith, lines .0, lines .1))), start .pre .1 .1 .1 .1 .0))))
+    (omega (arith, start .pre .0, c .before .before .before .before .if1 .left), (pre .0, (ok, (pre .1 .1 .0, (pre .1 .1 .1 .0, (start .pre .1 .1 .1 .1 .1 .0, (omega (arith, ok .short), (start .pre .1 .1 .1 .1 .1 .1 .1 .0, (zero-silent scratchPlaces (chunk .frames) (omega (arith, ok .short)), c .before .before .before .before .before .track-at .ensures)))))))))
 
 process-slice-aggregate-hand-on : (t : ℕ) → process-lts.Need-slice-aggregate-hand-on (
   track-at-reads.Asked,
   track-at-reads.Learnt,
   gather-below t,
   gather.Post,
-  apply-placing-and-volume-reads.Asked,
-  apply-placing-and-volume-reads.Learnt,
   hand-on-reads.Asked,
   hand-on-reads.Learnt,
 ) (process-at t) process.Post
@@ -490,14 +429,12 @@ process-hand-on-requires : (t : ℕ) → process-lts.Need-hand-on-requires (
   track-at-reads.Learnt,
   gather-below t,
   gather.Post,
-  apply-placing-and-volume-reads.Asked,
-  apply-placing-and-volume-reads.Learnt,
   hand-on-reads.Asked,
   hand-on-reads.Learnt,
 ) (process-at t) process.Post
 unfolding ofBits ofInt
 process-hand-on-requires t c κs =
-    let start = c .before .before .before .before .before .before .before .before .before .before .before .before .before .before .before .before .before .before .before .before .before in
+    let start = c .before .before .before .before .before .before .before .before .before .before .before .before .before .before .before .before .before in
     let args = start .args in
     let chunk = chunkFrom (args .places .now) (args .levels .now) (args .amplitudes .now) in
     let samples = recordings (args .samples .now) (args .visitor .now) in
@@ -506,11 +443,11 @@ process-hand-on-requires t c κs =
     let line = args .line in
     let ok = start .pre .1 .1 .0 in
     let d = args .depth - 1 in
-    let made = c .before .before .before .before .before .before .before .before .before .gather .ensures in
-    let track = c .before .before .before .before .before .before .before .before .before .before .before .before .before .before .before .track-at .result in
-    let gathered = kept L (sumSet d chunk samples line) n silent (made .0) in
-    let scaled = kept L (trackPlacedScaled track n) n _ (c .before .before .before .before .apply-placing-and-volume .ensures) in
-    let long : 2 * n ≤ length (c .before .before .before .before .apply-placing-and-volume .last .0) = omega (arith, gathered, scaled, ok .short) in
+    let made = c .before .before .before .before .before .before .gather .ensures in
+    let track = c .before .before .before .before .before .before .before .before .before .before .before .before .track-at .result in
+    let summed = kept L (sumSet d chunk samples line) n silent refl in
+    let scaled = kept L (trackPlacedScaled track n) n (withFrames L (sumSet d chunk samples line) silent) (made .0) in
+    let long : 2 * n ≤ length (c .before .before .before .before .before .before .gather .last .1 .1 .1 .1 .1 .1 .1 .1 .1 .1 .1 .1 .1 .0) = omega (arith, summed, scaled, ok .short) in
     let room = ap length (made .1) ∙ onSends-length n (withSubSends d chunk samples line) (args .sends .now) ∙ start .pre .1 .1 .1 .1 .1 .1 .1 .0 in
     (ok, (start .pre .1 .1 .1 .0 .2, (start .pre .1 .1 .1 .1 .1 .1 .0, (long, (room, omega (arith, start .pre .1 .1 .1 .1 .1 .0 .1, ok .tracks))))))
 
@@ -519,8 +456,6 @@ process-same-length : (t : ℕ) → process-lts.Need-same-length (
   track-at-reads.Learnt,
   gather-below t,
   gather.Post,
-  apply-placing-and-volume-reads.Asked,
-  apply-placing-and-volume-reads.Learnt,
   hand-on-reads.Asked,
   hand-on-reads.Learnt,
 ) (process-at t) process.Post
@@ -531,8 +466,6 @@ process-same-length-2 : (t : ℕ) → process-lts.Need-same-length-2 (
   track-at-reads.Learnt,
   gather-below t,
   gather.Post,
-  apply-placing-and-volume-reads.Asked,
-  apply-placing-and-volume-reads.Learnt,
   hand-on-reads.Asked,
   hand-on-reads.Learnt,
 ) (process-at t) process.Post
@@ -543,14 +476,12 @@ process-returns-3 : (t : ℕ) → process-lts.Need-returns-3 (
   track-at-reads.Learnt,
   gather-below t,
   gather.Post,
-  apply-placing-and-volume-reads.Asked,
-  apply-placing-and-volume-reads.Learnt,
   hand-on-reads.Asked,
   hand-on-reads.Learnt,
 ) (process-at t) process.Post
 unfolding ofBits ofInt
 process-returns-3 t c =
-    let start = c .before .before .before .before .before .before .before .before .before .before .before .before .before .before .before .before .before .before .before .before .before .before .before .before .before .before in
+    let start = c .before .before .before .before .before .before .before .before .before .before .before .before .before .before .before .before .before .before .before .before .before .before in
     let args = start .args in
     let chunk = chunkFrom (args .places .now) (args .levels .now) (args .amplitudes .now) in
     let samples = recordings (args .samples .now) (args .visitor .now) in
@@ -559,14 +490,14 @@ process-returns-3 t c =
     let line = args .line in
     let ok = start .pre .1 .1 .0 in
     let d = args .depth - 1 in
-    let deep : args .depth ≡ suc d = omega (arith, c .before .before .before .before .before .before .before .before .before .before .before .before .before .before .before .before .before .before .before .if1 .left) in
-    let read = c .before .before .before .before .before .before .before .before .before .before .before .before .before .before .before .before .before .before .before .before .track-at .ensures in
-    let moves = ap (λ (t : ChunkTrack). t .advancing) (sym read) ∙ not-false _ (c .before .before .before .before .before .before .before .before .before .before .before .before .before .before .before .before .before .if2 .left) in
-    let made = c .before .before .before .before .before .before .before .before .before .before .before .before .before .before .gather .ensures in
-    let sum = c .before .before .before .before .before .before .before .before .before .before .before .before .before .before .gather .last .1 .1 .1 .1 .1 .1 .1 .1 .1 .1 .1 .1 .0 in
-    let scaled = c .before .before .before .before .before .before .before .before .before .apply-placing-and-volume .ensures ∙ ap (λ (t : ChunkTrack). withFrames L (trackPlacedScaled t n) sum) read in
-    let out = c .before .before .before .before .before .before .before .before .before .apply-placing-and-volume .last .0 in
-    let has = track-mixed (args .depth) d chunk samples line deep silent (omega (arith, ok .short)) moves (made .0) scaled in
+    let deep : args .depth ≡ suc d = omega (arith, c .before .before .before .before .before .before .before .before .before .before .before .before .before .before .before .before .if1 .left) in
+    let read = c .before .before .before .before .before .before .before .before .before .before .before .before .before .before .before .before .before .track-at .ensures in
+    let moves = ap (λ (t : ChunkTrack). t .advancing) (sym read) ∙ not-false _ (c .before .before .before .before .before .before .before .before .before .before .before .before .before .before .if2 .left) in
+    let made = c .before .before .before .before .before .before .before .before .before .before .before .gather .ensures in
+    let out = c .before .before .before .before .before .before .before .before .before .before .before .gather .last .1 .1 .1 .1 .1 .1 .1 .1 .1 .1 .1 .1 .1 .0 in
+    let sum = withFrames L (sumSet d chunk samples line) silent in
+    let scaled = made .0 ∙ ap (λ (t : ChunkTrack). withFrames L (trackPlacedScaled t n) sum) read in
+    let has = track-mixed (args .depth) d chunk samples line deep silent (omega (arith, ok .short)) moves refl scaled in
     let handed = c .before .before .before .before .hand-on .ensures in
     (track-added (args .depth) chunk samples line (args .to .now) out has (handed .0), sends-mixed (args .depth) d chunk samples line (args .sends .now) deep out (ok .short) (start .pre .1 .1 .1 .1 .1 .1 .1 .0) moves has (made .1) (handed .1))
 
@@ -578,8 +509,8 @@ pub +gather+process-spec : {M : Type 1} → statement M
   process.Post,
   line-before-reads.Asked,
   line-before-reads.Learnt,
-  add-sounds-reads.Asked,
-  add-sounds-reads.Learnt,
+  add-sounds-and-scale-reads.Asked,
+  add-sounds-and-scale-reads.Learnt,
 )
     (gather-at t)
     gather.Post
@@ -591,7 +522,7 @@ pub +gather+process-spec : {M : Type 1} → statement M
     (gather-line-before-requires t)
     (gather-loop-less t)
     (gather-loop-again t)
-    (gather-add-sounds-requires t)
+    (gather-add-sounds-and-scale-requires t)
     (gather-same-length t)
     (gather-same-length-2 t)
     (gather-returns t))
@@ -600,14 +531,11 @@ pub +gather+process-spec : {M : Type 1} → statement M
       track-at-reads.Learnt,
       gather-below t,
       gather.Post,
-      apply-placing-and-volume-reads.Asked,
-      apply-placing-and-volume-reads.Learnt,
       hand-on-reads.Asked,
       hand-on-reads.Learnt,
     )
     (process-at t)
     process.Post
-    (process-element-copy-out-frames t)
     (process-sub-track-at t)
     (process-track-at-requires t)
     (process-returns t)
@@ -615,8 +543,6 @@ pub +gather+process-spec : {M : Type 1} → statement M
     (process-sub-gather t)
     (process-slice-aggregate-gather t)
     (process-gather-requires t)
-    (process-slice-aggregate-apply-placing-and-volume t)
-    (process-apply-placing-and-volume-requires t)
     (process-slice-aggregate-hand-on t)
     (process-hand-on-requires t)
     (process-same-length t)
