@@ -1,8 +1,9 @@
 //! Measures `room_desk_render` next to kira. See bench/README.md.
 
+mod cases;
+mod report;
 #[path = "../../drivers/room_desk.rs"]
 mod room_desk;
-mod report;
 mod rounds;
 mod scenes;
 mod sides;
@@ -11,13 +12,17 @@ use std::{env, process::ExitCode};
 
 const USAGE: &str = "usage: bench [--rounds N] [--blocks N] [SCENE...]
        bench [--blocks N] --only SIDE SCENE   renders once, for a profiler; SIDE: room_desk powf table
-scenes: steady fading single paused placed waiting short wide empty growth (or growth-1, -2, -4, -8, -16, -32); all by default";
+       bench [--rounds N] --cases             scenes of `oracle/scripts/cases.py long` from standard input
+scenes: steady fading single paused placed waiting short wide empty growth; all by default
+        (waiting: -single -steady; short: -1 -4 -16 -block-1 -block-16; growth: -1 -2 -4 -8 -16 -32)";
 
 struct Options {
 	rounds: usize,
 	blocks: usize,
 	/// One side alone.
 	only: Option<sides::Side>,
+	/// Scenes from standard input.
+	cases: bool,
 	names: Vec<String>,
 }
 
@@ -40,6 +45,7 @@ fn options(words: &[String]) -> Option<Options> {
 		rounds: 7,
 		blocks: 1024,
 		only: None,
+		cases: false,
 		names: vec![],
 	};
 	let mut words = words.iter();
@@ -47,6 +53,7 @@ fn options(words: &[String]) -> Option<Options> {
 		match word.as_str() {
 			"--rounds" => options.rounds = words.next()?.parse().ok()?,
 			"--blocks" => options.blocks = words.next()?.parse().ok()?,
+			"--cases" => options.cases = true,
 			"--only" => options.only = Some(sides::Side::named(words.next()?)?),
 			name => options.names.push(name.into()),
 		}
@@ -62,22 +69,18 @@ fn options(words: &[String]) -> Option<Options> {
 	options.names = options
 		.names
 		.iter()
-		.flat_map(|name| expanded(name))
+		.flat_map(|name| scenes::named(name))
 		.collect();
 	let sizes = (1..=1024).contains(&options.blocks) && options.rounds >= 1;
 	let known = (options.names.iter()).all(|name| scenes::scene(name, 1).is_some());
 	(sizes && known).then_some(options)
 }
 
-/// `growth` is six scenes.
-fn expanded(name: &str) -> Vec<String> {
-	match name {
-		"growth" => scenes::GROWTH.map(scenes::growth_name).into(),
-		name => vec![name.into()],
-	}
-}
-
 fn run(options: &Options) {
+	if options.cases {
+		cases::run(options.rounds);
+		return;
+	}
 	let scene = |name: &String| scenes::scene(name, options.blocks).expect("a known name");
 	let all: Vec<scenes::Scene> = options.names.iter().map(scene).collect();
 	if let Some(side) = options.only {

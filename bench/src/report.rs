@@ -2,7 +2,7 @@
 
 use crate::{
 	rounds::{Measured, median},
-	scenes::{GROWTH, growth_name},
+	scenes::GROWTH,
 };
 
 const OURS: usize = 0;
@@ -11,7 +11,7 @@ const TABLE: usize = 2;
 
 pub fn heading(blocks: usize, rounds: usize) {
 	println!(
-		"48,000 Hz, {blocks} blocks of 512 frames; {rounds} rounds of all scenes, the three in turn."
+		"48,000 Hz, {blocks} blocks, of 512 frames unless a name says otherwise; {rounds} rounds of all scenes, the three in turn."
 	);
 	println!(
 		"Only the rendering is timed, by the processor time of its thread. Before each render the output"
@@ -71,16 +71,18 @@ fn ratios(name: &str, above: &[f64], below: &[f64]) {
 	let mut all: Vec<f64> = above.iter().zip(below).map(|(a, b)| a / b).collect();
 	all.sort_by(f64::total_cmp);
 	let (least, most) = (all[0], all[all.len() - 1]);
-	println!("{name:32} {:6.3}   {least:6.3} to {most:6.3}", median(all));
+	println!("{name:38} {:6.3}   {least:6.3} to {most:6.3}", median(all));
 }
 
 pub fn summary(all: &[Measured]) {
 	let find = |name: &str| all.iter().find(|measured| measured.name == name);
-	println!("\nratios within a round             median    least     most");
+	println!("\nratios within a round                   median    least     most");
 	for measured in all {
 		let times = &measured.times;
-		let name = format!("{}: kira powf/room_desk", measured.name);
-		ratios(&name, &times[POWF], &times[OURS]);
+		for (side, kira) in [(POWF, "powf"), (TABLE, "table")] {
+			let name = format!("{}: kira {kira}/room_desk", measured.name);
+			ratios(&name, &times[side], &times[OURS]);
+		}
 	}
 	for scene in ["paused", "placed"] {
 		let (Some(measured), Some(steady)) = (find(scene), find("steady")) else {
@@ -91,7 +93,7 @@ pub fn summary(all: &[Measured]) {
 			ratios(&name, &measured.times[side], &steady.times[side]);
 		}
 	}
-	let growth = GROWTH.map(|tracks| (tracks, find(&growth_name(tracks))));
+	let growth = GROWTH.map(|tracks| (tracks, find(&format!("growth-{tracks}"))));
 	if growth.iter().all(|(_, measured)| measured.is_some()) {
 		println!("\ngrowth, ns/frame and ns/frame/track");
 		println!("tracks   room_desk          kira powf          kira table");
@@ -100,12 +102,12 @@ pub fn summary(all: &[Measured]) {
 		}
 	}
 	println!(
-		"\noutputs      samples     zeros     peak   powf differs from the table in, at most by"
+		"\noutputs           samples     zeros     peak   powf differs from the table in, at most by"
 	);
 	for measured in all {
 		let outputs = &measured.outputs;
 		print!(
-			"{:9} {:10} {:9} {:8.4}",
+			"{:14} {:10} {:9} {:8.4}",
 			measured.name, outputs.samples, outputs.zeros, outputs.peak
 		);
 		println!("   {} {:e}", outputs.powf_differs, outputs.powf_farthest);

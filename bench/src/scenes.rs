@@ -1,5 +1,5 @@
-//! The scenes, by fixed rules. All have 48,000 Hz and blocks of 512 frames, most
-//! two channels and a buffer of 128; every sound plays the whole show.
+//! The scenes, by fixed rules. All have 48,000 Hz, most two channels, a buffer of
+//! 128 and blocks of 512 frames; every sound plays the whole show.
 
 use std::fmt::Write;
 
@@ -13,6 +13,19 @@ const APART: usize = 997;
 const SECOND_FADE: usize = 470;
 
 pub const GROWTH: [usize; 6] = [1, 2, 4, 8, 16, 32];
+
+/// The scenes that a word stands for.
+pub fn named(word: &str) -> Vec<String> {
+	let parts: Vec<String> = match word {
+		"growth" => GROWTH.map(|tracks| tracks.to_string()).into(),
+		"waiting" => ["single", "steady"].map(String::from).into(),
+		"short" => ["1", "4", "16", "block-1", "block-16"]
+			.map(String::from)
+			.into(),
+		_ => return vec![word.into()],
+	};
+	parts.iter().map(|part| format!("{word}-{part}")).collect()
+}
 
 /// A scene file, and how many frames of samples it plays from. Every second
 /// sound is from the visitor, whose buffer has the same samples.
@@ -39,13 +52,12 @@ pub fn scene(name: &str, blocks: usize) -> Option<Scene> {
 			placings: placings(32),
 			..steady(32)
 		},
-		"waiting" => Tables {
+		"waiting-single" => Tables {
 			orders: vec![waits()],
 			..single()
 		},
-		"short" => Tables {
-			buffer: 16,
-			orders: fades(blocks),
+		"waiting-steady" => Tables {
+			orders: vec![waits()],
 			..steady(32)
 		},
 		"wide" => Tables {
@@ -59,25 +71,21 @@ pub fn scene(name: &str, blocks: usize) -> Option<Scene> {
 			orders: vec![waits()],
 			..single()
 		},
-		_ => steady(growth_tracks(name)?),
+		_ => match name.split_once('-')? {
+			("growth", tracks) => steady(tracks.parse().ok()?),
+			("short", part) => short(part, blocks)?,
+			_ => return None,
+		},
 	};
 	let sample_frames = match tables.sounds.len() {
 		0 => 0,
-		sounds => blocks * BLOCK + (sounds - 1) * APART,
+		sounds => blocks * tables.block + (sounds - 1) * APART,
 	};
 	Some(Scene {
 		name: name.into(),
 		file: tables.file(blocks),
 		sample_frames,
 	})
-}
-
-pub fn growth_name(tracks: usize) -> String {
-	format!("growth-{tracks}")
-}
-
-fn growth_tracks(name: &str) -> Option<usize> {
-	(GROWTH.into_iter()).find(|tracks| growth_name(*tracks) == name)
 }
 
 /// Numbers of a linear congruential generator, in -1/64..1/64: the sums of all
@@ -94,6 +102,7 @@ pub fn samples(frames: usize) -> Vec<f32> {
 struct Tables {
 	channels: usize,
 	buffer: usize,
+	block: usize,
 	volume: i32,
 	tracks: Vec<[usize; 1]>,
 	sends: usize,
@@ -117,12 +126,12 @@ impl Tables {
 			.routes
 			.iter()
 			.map(|[track, send]| format!("{track} {send} {volume}"));
-		let count = blocks * BLOCK;
+		let count = blocks * self.block;
 		let sounds = self.sounds.iter().zip(0..);
 		let sounds = sounds.map(|(track, k)| format!("{track} {} {count} {}", k * APART, k % 2));
-		let (channels, buffer) = (self.channels, self.buffer);
+		let (channels, buffer, block) = (self.channels, self.buffer, self.block);
 		let mut text = format!(
-			"rate channels buffer block blocks volume\n48000 {channels} {buffer} {BLOCK} {blocks} {volume}\n"
+			"rate channels buffer block blocks volume\n48000 {channels} {buffer} {block} {blocks} {volume}\n"
 		);
 		table(&mut text, "unit speed ticking", []);
 		table(&mut text, "parent volume", tracks);
@@ -162,6 +171,7 @@ fn steady(tracks: usize) -> Tables {
 	Tables {
 		channels: 2,
 		buffer: 128,
+		block: BLOCK,
 		volume: -3000,
 		tracks: (1..=tracks).map(|track| [parent(track)]).collect(),
 		sends: SENDS,
@@ -171,6 +181,25 @@ fn steady(tracks: usize) -> Tables {
 		sounds: (1..=tracks).flat_map(|track| [track, track]).collect(),
 		placings: vec![],
 		orders: vec![],
+	}
+}
+
+/// Fading in short chunks: buffers of so many frames, or blocks.
+fn short(part: &str, blocks: usize) -> Option<Tables> {
+	let fading = Tables {
+		orders: fades(blocks),
+		..steady(32)
+	};
+	match part.split_once('-') {
+		Some(("block", block)) => Some(Tables {
+			block: block.parse().ok()?,
+			..fading
+		}),
+		Some(_) => None,
+		None => Some(Tables {
+			buffer: part.parse().ok()?,
+			..fading
+		}),
 	}
 }
 
@@ -186,6 +215,7 @@ fn single() -> Tables {
 	Tables {
 		channels: 2,
 		buffer: 128,
+		block: BLOCK,
 		volume: 0,
 		tracks: vec![[0]],
 		sends: 0,

@@ -39,11 +39,17 @@ impl Side {
 	/// Renders the whole show. room_desk's time has the reading of the scene and
 	/// the samples' check in it; kira's begins when its mixer is built.
 	pub fn render(self, scene: &Scene, samples: &[f32], output: &mut [f32]) -> Duration {
-		let tables = || scene::accepted(scene.file.as_bytes()).expect("an accepted scene");
+		self.rendered(scene.file.as_bytes(), [samples, samples], output)
+	}
+
+	/// The same of a scene file, with the house's and the visitor's samples.
+	pub fn rendered(self, file: &[u8], samples: [&[f32]; 2], output: &mut [f32]) -> Duration {
+		let tables = || scene::accepted(file).expect("an accepted scene");
 		match self {
 			Self::RoomDesk => {
-				let (number, time) = timed(|| rendered(scene, samples, output));
-				assert_eq!(number, 0, "room_desk refuses {}", scene.name);
+				let [house, visitor] = samples;
+				let (number, time) = timed(|| room_desk::render(file, house, visitor, output));
+				assert_eq!(number, 0, "room_desk refuses the scene");
 				time
 			}
 			Self::KiraPowf => {
@@ -58,25 +64,30 @@ impl Side {
 	}
 }
 
+/// Kira's mixer built and the whole show rendered, from tables that are read.
+pub fn built_and_rendered(file: &[u8], samples: [&[f32]; 2], output: &mut [f32]) -> Duration {
+	let tables = scene::accepted(file).expect("an accepted scene");
+	let recordings = recordings(samples);
+	timed(|| kira_powf::harness::Show::new(&tables, &recordings).render(output)).1
+}
+
+fn recordings(samples: [&[f32]; 2]) -> scene::Recordings {
+	samples.map(|samples| scene::Recording {
+		samples: samples.to_vec(),
+		broken: false,
+	})
+}
+
 /// What room_desk does before the first block: a call whose output has a length
 /// that question 10 refuses.
 pub fn reading(scene: &Scene, samples: &[f32]) -> Duration {
-	let (number, time) = timed(|| rendered(scene, samples, &mut []));
+	asked(scene.file.as_bytes(), [samples, samples])
+}
+
+pub fn asked(file: &[u8], [house, visitor]: [&[f32]; 2]) -> Duration {
+	let (number, time) = timed(|| room_desk::render(file, house, visitor, &mut []));
 	assert_eq!(number, 10, "question 10 is the last");
 	time
-}
-
-fn rendered(scene: &Scene, samples: &[f32], output: &mut [f32]) -> u32 {
-	room_desk::render(scene.file.as_bytes(), samples, samples, output)
-}
-
-/// The house's and the visitor's: the same samples.
-fn recordings(samples: &[f32]) -> scene::Recordings {
-	let recording = scene::Recording {
-		samples: samples.to_vec(),
-		broken: false,
-	};
-	[recording.clone(), recording]
 }
 
 fn timed<T>(work: impl FnOnce() -> T) -> (T, Duration) {
