@@ -56,7 +56,6 @@ pub struct Input {
     pub silent: Vec<(usize, String)>,
     /// What the sheet's reader has to say, with its lines: times that landed elsewhere.
     pub notes: Vec<(usize, String)>,
-    pub any_rate: bool,
 }
 
 impl Input {
@@ -76,22 +75,21 @@ impl Input {
             return Err(Stop::Usage(format!("{sheet} {why}")));
         }
         let name = found(first, &mut house, &mut visitor)?;
-        let mut recordings = Both::default();
+        let mut recordings = Both { any_rate: args.has("--any-rate"), ..Both::default() };
         for file in &house {
             recordings.house.add(file, file)?;
         }
         for file in &visitor {
             recordings.visitor.add(file, file)?;
         }
-        let any_rate = args.has("--any-rate");
         let file = files::read(&name)?;
         if name.ends_with(".show") {
-            return Self::of_sheet(name, &file, recordings, any_rate);
+            return Self::of_sheet(name, &file, recordings);
         }
-        Ok(Self { name, file, recordings, any_rate, ..Self::default() })
+        Ok(Self { name, file, recordings, ..Self::default() })
     }
 
-    fn of_sheet(name: String, bytes: &[u8], recordings: Both, any_rate: bool) -> Done<Self> {
+    fn of_sheet(name: String, bytes: &[u8], recordings: Both) -> Done<Self> {
         let refused = |sheet: &str, finding: Finding| {
             report::findings(&name, sheet, &[finding], Paint::default())
         };
@@ -107,14 +105,14 @@ impl Input {
                 silent: made.silent,
                 notes: made.notes,
                 name,
-                any_rate,
             }),
             Err(sheet::Fault::Line(finding)) => Err(Stop::Refused(refused(&sheet, *finding))),
             Err(sheet::Fault::Missing(finding)) => {
                 Err(Stop::File(refused(&sheet, *finding).trim_end().into()))
             }
-            Err(sheet::Fault::Recording(line, text)) => {
-                Err(Stop::Refused(format!("{text}    it stands in {name}:{line}\n")))
+            Err(sheet::Fault::Recording(finding, refusal)) => {
+                let last = report::headline(refusal.number(), Paint::default());
+                Err(Stop::Refused(refused(&sheet, *finding) + &last))
             }
         }
     }
@@ -129,7 +127,7 @@ impl Input {
         }
         let shape = answer.map_err(|refusal| Trouble::Number(refusal.number()))?;
         match self.recordings.parts().find(|part| part.rate.is_some_and(|r| r != shape.rate)) {
-            Some(part) if !self.any_rate => {
+            Some(part) if !self.recordings.any_rate => {
                 Err(Trouble::Rate(part.clone(), part.rate.unwrap_or(0), shape.rate))
             }
             _ => Ok(shape),

@@ -4,7 +4,7 @@ use room_desk::{Recordings, Refusal, aiff, wave};
 
 use crate::files;
 use crate::scene::count;
-use crate::stop::{Done, Stop};
+use crate::stop::Stop;
 
 /// A file's place among the joined frames.
 #[derive(Debug, Clone, PartialEq)]
@@ -34,6 +34,36 @@ pub struct Joined {
 pub struct Both {
     pub house: Joined,
     pub visitor: Joined,
+    /// Recordings of another rate than the show's are taken.
+    pub any_rate: bool,
+}
+
+/// Why a file is not joined.
+#[derive(Debug)]
+pub enum Unread {
+    File(Stop),
+    Refused(Refused),
+}
+
+impl From<Unread> for Stop {
+    fn from(unread: Unread) -> Self {
+        match unread {
+            Unread::File(stop) => stop,
+            Unread::Refused(refused) => Stop::Refused(refused.text()),
+        }
+    }
+}
+
+/// A sound file that is refused.
+#[derive(Debug)]
+pub struct Refused {
+    pub path: String,
+    pub refusal: Refusal,
+    /// What it is or has; may be empty.
+    pub what: String,
+    /// Commands that make one that is read, and what their file's name ends with.
+    pub mend: Vec<String>,
+    pub ending: &'static str,
 }
 
 impl Both {
@@ -57,8 +87,8 @@ impl Both {
 
 impl Joined {
     /// Reads a file and joins it; `name` is what it is called.
-    pub fn add(&mut self, name: &str, path: &str) -> Done<&mut Part> {
-        let bytes = files::read(path)?;
+    pub fn add(&mut self, name: &str, path: &str) -> Result<&mut Part, Unread> {
+        let bytes = files::read(path).map_err(Unread::File)?;
         let (samples, rate, rest) = match form(path, &bytes) {
             Form::Wave => sound(path, &bytes, wave::read(&bytes))?,
             Form::Aiff => sound(path, &bytes, aiff::read(&bytes))?,
@@ -104,11 +134,30 @@ pub fn form(path: &str, bytes: &[u8]) -> Form {
 
 type Samples = (Vec<f32>, Option<u32>, usize);
 
-fn sound(path: &str, bytes: &[u8], read: Result<room_desk::Sound, Refusal>) -> Done<Samples> {
+fn sound(
+    path: &str,
+    bytes: &[u8],
+    read: Result<room_desk::Sound, Refusal>,
+) -> Result<Samples, Unread> {
     match read {
         Ok(sound) => Ok((sound.samples, Some(sound.rate), 0)),
-        Err(refusal) => Err(Stop::Refused(refused(path, bytes, refusal))),
+        Err(refusal) => Err(Unread::Refused(Refused::of(path, bytes, refusal))),
     }
+}
+
+/// What a file that can be read says of its rate.
+pub fn rate_of(path: &str) -> Option<u32> {
+    let bytes = files::read(path).ok()?;
+    match form(path, &bytes) {
+        Form::Wave => wave::info(&bytes).ok().map(|info| info.rate),
+        Form::Aiff => aiff::info(&bytes).ok().map(|info| info.rate),
+        Form::Raw => None,
+    }
+}
+
+/// The command that makes a recording of the show's rate, and the file that it makes.
+pub fn resampled(path: &str, rate: i64) -> String {
+    format!("sox {} -r {rate} {}", quoted(path), quoted(&format!("{}-{rate}.wav", stem(path))))
 }
 
 pub fn raw(bytes: &[u8]) -> Vec<f32> {
@@ -116,46 +165,52 @@ pub fn raw(bytes: &[u8]) -> Vec<f32> {
     words.map(|word| f32::from_le_bytes([word[0], word[1], word[2], word[3]])).collect()
 }
 
-/// The refusal of a sound file, with what mends it.
-pub fn refused(path: &str, bytes: &[u8], refusal: Refusal) -> String {
-    let mut text = format!("refused {}: {path}: {refusal}\n", refusal.number());
-    for line in advice(path, bytes, refusal) {
-        text += &format!("    {line}\n");
-    }
-    text
-}
-
-/// What the file is, and commands that make one that is read.
-fn advice(path: &str, bytes: &[u8], refusal: Refusal) -> Vec<String> {
-    let stem = stem(path);
-    let (from, to) = (quoted(path), quoted(&format!("{stem}-16.wav")));
-    let float = quoted(&format!("{stem}-float.wav"));
-    let sixteen = format!("as 16-bit:  sox {from} -b 16 {to}");
-    let exact = format!("as float:   sndfile-convert -float32 {from} {float}");
-    match refusal {
-        Refusal::NotWave | Refusal::NotAiff => {
-            let mut lines = vec![what_it_is(bytes)];
-            match format_chunk(bytes) {
-                Some((size, 3, _, _)) if size != 16 => lines.push(exact),
-                Some((size, ..)) if size != 16 => lines.extend([sixteen, exact]),
-                _ => lines.push(sixteen),
+impl Refused {
+    pub fn of(path: &str, bytes: &[u8], refusal: Refusal) -> Self {
+        let stem = stem(path);
+        let (from, to) = (quoted(path), quoted(&format!("{stem}-16.wav")));
+        let float = quoted(&format!("{stem}-float.wav"));
+        let sixteen = |more: &str| format!("as 16-bit:  sox {from} -b 16{more} {to}");
+        let exact = format!("as float:   sndfile-convert -float32 {from} {float}");
+        let (what, mend, ending) = match (refusal, format_chunk(bytes)) {
+            (Refusal::NotWave | Refusal::NotAiff, chunk) => {
+                let (mend, ending) = match chunk {
+                    Some((size, 3, _, _)) if size != 16 => (vec![exact], "-float.wav"),
+                    Some((size, ..)) if size != 16 => (vec![sixteen(""), exact], "-16.wav"),
+                    _ => (vec![sixteen("")], "-16.wav"),
+                };
+                (what_it_is(bytes), mend, ending)
             }
-            lines
-        }
-        Refusal::SampleKind => match format_chunk(bytes) {
-            Some((_, kind, channels, bits)) => {
+            (Refusal::SampleKind, Some((_, kind, channels, bits))) => {
                 let what = format!("it has {}", samples_of(kind, bits, channels));
                 let two = if channels > 2 { " -c 2" } else { "" };
-                vec![what, format!("as 16-bit:  sox {from} -b 16{two} {to}"), exact]
+                (what, vec![sixteen(two), exact], "-16.wav")
             }
-            None => vec![format!("as 16-bit:  sox {from} -b 16 -c 2 {to}")],
-        },
-        Refusal::BrokenFile => {
-            vec![format!("copy it again: it has {} bytes; does the original?", bytes.len())]
-        }
-        Refusal::Not16Bit => vec![format!("rounded to 16 bits:  sox {from} -b 16 {to}")],
-        Refusal::Rate => vec![format!("at another rate:  sox {from} -b 16 -r 48000 {to}")],
-        _ => vec![],
+            (Refusal::SampleKind, None) => (String::new(), vec![sixteen(" -c 2")], "-16.wav"),
+            (Refusal::BrokenFile, _) => {
+                let what = format!("it has {} bytes; does the original?", bytes.len());
+                (what, vec!["copy it again".into()], "")
+            }
+            (Refusal::Not16Bit, _) => {
+                let rounded = format!("rounded to 16 bits:  sox {from} -b 16 {to}");
+                (String::new(), vec![rounded], "-16.wav")
+            }
+            (Refusal::Rate, _) => {
+                let other = format!("at another rate:  sox {from} -b 16 -r 48000 {to}");
+                (String::new(), vec![other], "-16.wav")
+            }
+            _ => (String::new(), vec![], ""),
+        };
+        Self { path: path.into(), refusal, what, mend, ending }
+    }
+
+    /// For a file of the command line.
+    pub fn text(&self) -> String {
+        let (number, refusal) = (self.refusal.number(), self.refusal);
+        let mut text = format!("refused {number}: {}: {refusal}\n", self.path);
+        let lines = [&self.what].into_iter().chain(&self.mend).filter(|line| !line.is_empty());
+        lines.for_each(|line| text += &format!("    {line}\n"));
+        text
     }
 }
 

@@ -4,7 +4,7 @@ use room_desk::Refusal;
 
 use crate::input::{Input, Trouble};
 use crate::paint::Paint;
-use crate::recordings::{Part, quoted, stem};
+use crate::recordings::{Part, quoted, resampled, stem};
 use crate::scene::{Finding, commas, count, explain};
 use crate::sheet;
 
@@ -30,25 +30,20 @@ pub fn trouble(input: &Input, trouble: &Trouble, paint: Paint) -> String {
 fn other_rate(input: &Input, part: &Part, rate: u32, show: u32, paint: Paint) -> String {
     let percent = (f64::from(show) / f64::from(rate).max(1.0) - 1.0).abs() * 100.0;
     let way = if show > rate { "high" } else { "low" };
-    let (file, from) = (&part.file, quoted(&part.path));
-    let stem = stem(&part.path);
+    let (file, mend) = (&part.file, resampled(&part.path, show.into()));
     let mut place = String::new();
-    if let Some(line) = part.line {
-        place += &format!("    it stands in {}:{line}\n", input.name);
-    }
     if input.recordings.parts().all(|part| part.rate == Some(rate)) {
         place += "    all recordings have it: a show of that rate takes them\n";
     }
     format!(
         "{}: {file} has {rate} frames a second, the show {show}: it would sound {percent:.1} % too {way}\n    \
-         at the show's rate:  sox {from} -r {show} {}\n    \
+         at the show's rate:  {mend}\n    \
          as it is:            --any-rate\n{place}",
         paint.bad("refused"),
-        quoted(&format!("{stem}-{show}.wav"))
     )
 }
 
-fn headline(number: u32, paint: Paint) -> String {
+pub fn headline(number: u32, paint: Paint) -> String {
     let sentence = Refusal::from_number(number);
     format!("{} {number}: {sentence}\n", paint.bad("refused"))
 }

@@ -22,6 +22,14 @@ pub fn seconds(seconds: f64) -> String {
     if 0.0 < seconds && seconds < 0.01 { about(seconds) } else { format!("{seconds:.3} s") }
 }
 
+/// Frames as seconds where these are exact, as a sheet writes them.
+pub fn exact(frames: i64, rate: i64) -> String {
+    if frames * 1000 % rate == 0 {
+        return format!("{} s", thousandths(frames * 1000 / rate));
+    }
+    format!("{frames} frames")
+}
+
 /// Seconds, short: for labels and sentences.
 pub fn about(seconds: f64) -> String {
     if seconds < 1.0 {

@@ -138,7 +138,11 @@ fn refusals_in_the_words_of_the_sheet() {
             ["refused 4", "the show is 180.", "up to 65.536 s at 8000 Hz, 524,288 frames"],
         ),
         ("speakers 2", "speakers 12", ["refused 4", "x.show:3: 12 speakers", "1 to 8"]),
-        ("rate 8000", "rate 4000", ["refused 4", "x.show:2: rate is 4000", "8000 to 192000"]),
+        (
+            "rate 8000",
+            "rate 4000",
+            ["x.show:2:6: the rate is 4000", "all recordings", "`rate 8000`"],
+        ),
         (
             "at 8.5 s",
             "at 10.5 s",
@@ -228,8 +232,11 @@ fn recordings_name_their_line() {
     let loud: Vec<u8> = [0.5f32, 0.5, 1.5, 0.0].iter().flat_map(|s| s.to_le_bytes()).collect();
     fs::write(folder.join("loud.raw"), loud).unwrap();
     for (file, parts) in [
-        ("deep.wav", ["it has 24-bit samples in 1 channel", "it stands in x.show:15"]),
-        ("fast.wav", ["sox fast.wav -r 8000 fast-8000.wav", "it stands in x.show:15"]),
+        (
+            "deep.wav",
+            ["x.show:15:14: `deep.wav` is not read: it has 24-bit samples", "sox deep.wav"],
+        ),
+        ("fast.wav", ["x.show:15:14: `fast.wav` has 16000", "sox fast.wav -r 8000 fast-8000.wav"]),
         (
             "loud.raw",
             ["x.show:15: loud.raw: 1 sample out of range, the first in frame 1: 1.5", "-1.0..1.0"],
@@ -245,7 +252,7 @@ fn recordings_name_their_line() {
     }
     fs::write(folder.join("x.show"), "rate 8000\nlength 1 s\nplay fast.wav\n").unwrap();
     let (_, said) = answer(&folder, &["check", "x.show"]);
-    assert!(said.contains("all recordings have it"), "{said}");
+    assert!(said.contains("the rate is 8000; all recordings have 16000"), "{said}");
 }
 
 /// Why a track is not proved silent, by every command that makes something of the sheet.

@@ -4,7 +4,7 @@ use room_desk::convert::{aiff_to_wave, wave_to_aiff};
 
 use crate::args::Args;
 use crate::files;
-use crate::recordings::{Form, form, refused};
+use crate::recordings::{Form, Refused, form};
 use crate::stop::{Done, Stop};
 
 pub fn run(args: &Args) -> Done {
@@ -28,7 +28,7 @@ pub fn run(args: &Args) -> Done {
     };
     match made {
         Ok(file) => files::write(to, &file),
-        Err(refusal) => Err(Stop::Refused(refused(from, &bytes, refusal))),
+        Err(refusal) => Err(Stop::Refused(Refused::of(from, &bytes, refusal).text())),
     }
 }
 

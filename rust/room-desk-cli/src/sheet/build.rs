@@ -39,6 +39,10 @@ pub struct Builder<'a> {
     pub ended: Option<usize>,
     /// The least indent of the sheet.
     pub margin: usize,
+    /// The number of the `rate` line, with its line.
+    pub rate: Option<(usize, Word)>,
+    /// Every recording that the sheet names.
+    pub named: Vec<String>,
     length: Option<Words>,
     orders: Vec<Words>,
     /// The settings that have been read.
@@ -59,6 +63,8 @@ pub fn compile(sheet: &str, folder: &Path, recordings: Both) -> Result<Made, Fau
         open: vec![],
         ended: None,
         margin: 0,
+        rate: None,
+        named: vec![],
         length: None,
         orders: vec![],
         settings: vec![],
@@ -75,10 +81,23 @@ pub fn compile(sheet: &str, folder: &Path, recordings: Both) -> Result<Made, Fau
     let indents = lines.iter().filter(|words| !words.is_empty()).map(|words| words.indent);
     builder.margin = indents.min().unwrap_or(0);
     builder.find_grid(&lines)?;
+    builder.named = lines.iter().flat_map(recordings_of).collect();
+    builder.named.sort();
+    builder.named.dedup();
     for words in lines {
         builder.line(words)?;
     }
     builder.finish()
+}
+
+/// The recordings that a line names.
+fn recordings_of(words: &Words) -> Vec<String> {
+    let texts: Vec<String> = words.all().map(|word| word.text.clone()).collect();
+    match texts.split_first() {
+        Some((first, rest)) if ["house", "visitor"].contains(&first.as_str()) => rest.to_vec(),
+        Some((first, rest)) if first == "play" => rest.iter().take(1).cloned().collect(),
+        _ => vec![],
+    }
 }
 
 /// The shortest block that holds the show, so that times land near, and of which a tenth of a second
@@ -106,6 +125,7 @@ impl Builder<'_> {
         };
         if let Some(mut words) = line("rate") {
             self.scene.head.rate = whole(&mut words, RATE)?;
+            self.rate = Some((words.line, words.since(words.read() - 1)));
         }
         self.length = line("length");
         if let Some(mut words) = line("block") {

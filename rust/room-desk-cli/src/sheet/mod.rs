@@ -5,6 +5,7 @@ mod build;
 mod names;
 mod orders;
 mod play;
+mod rates;
 mod reword;
 mod tracks;
 mod values;
@@ -18,6 +19,8 @@ pub use write::write;
 use std::collections::HashMap;
 
 use crate::input::Names;
+use room_desk::Refusal;
+
 use crate::recordings::Both;
 use crate::scene::{Finding, Scene};
 
@@ -45,8 +48,8 @@ pub enum Fault {
     Line(Box<Finding>),
     /// A recording that cannot be read, by the line that names it.
     Missing(Box<Finding>),
-    /// A recording that is refused: the sheet's line, and the refusal in whole lines.
-    Recording(usize, String),
+    /// A recording that is refused, by the line that names it.
+    Recording(Box<Finding>, Refusal),
 }
 
 impl From<Finding> for Fault {

@@ -7,12 +7,12 @@ use super::build::Builder;
 use super::values::frames;
 use super::words::{Word, Words};
 use crate::guess::meant;
-use crate::recordings::{Both, Form, form};
+use crate::recordings::{Both, Form, Refused, Unread, form, stem};
 use crate::scene::model::RESUME;
 use crate::scene::tables::Kind;
 use crate::scene::{Finding, Order, Sound, Track};
 use crate::stop::Stop;
-use crate::units::{millis, seconds};
+use crate::units::{exact, millis, seconds};
 
 const PLAY: &str =
     "from TIME, for TIME, at TIME or on TRACK; the name of a file with spaces stands in \"quotes\"";
@@ -29,17 +29,18 @@ impl Builder<'_> {
     fn add_recording(&mut self, words: &Words, file: &Word, from: usize) -> Result<(), Fault> {
         let path = self.folder.join(&file.text);
         let added = self.recordings.of_mut(from).add(&file.text, &path.display().to_string());
-        let part = added.map_err(|stop| match stop {
-            Stop::Refused(text) => Fault::Recording(words.line, text),
-            Stop::File(why) | Stop::Usage(why) => {
+        let part = added.map_err(|unread| match unread {
+            Unread::Refused(refused) => not_read(words, file, &refused),
+            Unread::File(Stop::File(why) | Stop::Usage(why) | Stop::Refused(why)) => {
                 let span = file.span.clone();
                 Fault::Missing(Box::new(Finding::at(words.line, span, why, beside(&path))))
             }
         })?;
         part.line = Some(words.line);
-        let rate = part.rate.map_or(self.scene.head.rate, i64::from);
-        if rate != self.scene.head.rate {
-            let show = self.scene.head.rate;
+        let (path, rate) = (part.path.clone(), part.rate);
+        self.same_rate(words, file, &path, rate)?;
+        let show = self.scene.head.rate;
+        if let Some(rate) = rate.filter(|rate| i64::from(*rate) != show) {
             let note = format!("{} has {rate} frames a second, the show {show}", file.text);
             self.notes.push((words.line, note));
         }
@@ -49,7 +50,10 @@ impl Builder<'_> {
     pub fn play(&mut self, words: &mut Words, owner: usize) -> Result<(), Fault> {
         let file = words.next("a recording, `house` or `visitor`")?;
         let (mut first, mut count, mut at, mut track) = (0, None, None, owner);
+        // The words of `from` and `for`, from the first of them on.
+        let (mut begun, mut part) = (None, file.clone());
         while !words.is_empty() {
+            let start = words.read();
             let next = words.next("")?;
             match next.text.as_str() {
                 "from" => first = frames(words, self.grid())?,
@@ -58,6 +62,9 @@ impl Builder<'_> {
                 "on" => track = self.track_named(words)?,
                 _ => return Err(words.wrong(&next, "is not understood here", PLAY).into()),
             }
+            if ["from", "for"].contains(&next.text.as_str()) {
+                part = words.since(*begun.get_or_insert(start));
+            }
         }
         // On the main track it would be heard past the track that it was written below.
         if track == 0 && words.indent > self.margin {
@@ -65,21 +72,47 @@ impl Builder<'_> {
         }
         // The whole line is read before the file is looked for.
         let (from, start, length) = self.source(words, &file)?;
-        let count = count.unwrap_or((length - first).max(0));
-        if start.is_some() && first + count > length {
-            let long = seconds(length as f64 / self.scene.rate());
-            let ends = seconds((first + count) as f64 / self.scene.rate());
-            let why = format!("is {long} long");
-            return Err(words
-                .wrong(&file, &why, format!("a part of it: this one ends at {ends}"))
-                .into());
+        if start.is_some() && first + count.unwrap_or(0) > length {
+            let asked = Asked { first, count, length };
+            return Err(self.too_long(words, &file, &part, asked).into());
         }
+        let count = count.unwrap_or((length - first).max(0));
         if let Some(at) = at {
             track = self.later(words, &file, track, at);
         }
         self.scene.sounds.push(Sound { track, first: start.unwrap_or(0) + first, count, from });
         self.made(Kind::Sounds, words.line);
         Ok(())
+    }
+
+    /// A part that ends behind the end of its file.
+    fn too_long(&self, words: &Words, file: &Word, part: &Word, asked: Asked) -> Finding {
+        let Asked { first, count, length } = asked;
+        let rate = self.scene.head.rate;
+        let of = |frames: i64| seconds(frames as f64 / rate as f64);
+        let long = format!("{} is {} long", file.text, of(length));
+        let ways = [
+            count.filter(|_| first < length).map(|_| (first, length - first)),
+            count
+                .filter(|count| *count <= length && first > 0)
+                .map(|count| (length - count, count)),
+        ];
+        let written = |(first, count): (i64, i64)| match first {
+            0 => format!("`for {}`", exact(count, rate)),
+            _ => format!("`from {} for {}`", exact(first, rate), exact(count, rate)),
+        };
+        let ways: Vec<String> = ways.into_iter().flatten().map(written).collect();
+        let allowed = match &ways[..] {
+            [] => format!("`from` before {}", of(length)),
+            _ => ways.join(" or "),
+        };
+        let why = match count {
+            Some(count) if first < length => {
+                format!("ends at {}, but {long}", of(first + count))
+            }
+            _ => format!("begins behind the end: {long}"),
+        };
+        words.wrong(part, &why, allowed)
     }
 
     /// Whose recordings, where the file begins among them (none for all of them), and its frames.
@@ -101,7 +134,10 @@ impl Builder<'_> {
             self.add_recording(words, file, 0)?;
         }
         match found(&self.recordings) {
-            Some((from, part)) => Ok((from, Some(part.first as i64), part.frames as i64)),
+            Some((from, part)) => {
+                self.same_rate(words, file, &part.path, part.rate)?;
+                Ok((from, Some(part.first as i64), part.frames as i64))
+            }
             None => Err(words.wrong(file, "is no recording", "a recording").into()),
         }
     }
@@ -125,6 +161,30 @@ impl Builder<'_> {
         self.made(Kind::Orders, words.line);
         index
     }
+}
+
+/// The part of a recording that a line asks for, and the recording's frames.
+struct Asked {
+    first: i64,
+    count: Option<i64>,
+    length: i64,
+}
+
+/// A recording of a kind that is not read, with what mends it.
+fn not_read(words: &Words, file: &Word, refused: &Refused) -> Fault {
+    let name = format!("{}{}", stem(&file.text), refused.ending);
+    let here = format!("`{} {name}` here, once that file is made", words.first());
+    let mend = refused.mend.iter().map(String::as_str);
+    let lines: Vec<&str> = match refused.ending {
+        "" => mend.collect(),
+        _ => [here.as_str()].into_iter().chain(mend).collect(),
+    };
+    let why = match refused.what.as_str() {
+        "" => "is not read".into(),
+        what => format!("is not read: {what}"),
+    };
+    let finding = words.wrong(file, &why, lines.join("\n    "));
+    Fault::Recording(Box::new(finding), refused.refusal)
 }
 
 /// The recordings in the folder in which one was looked for.

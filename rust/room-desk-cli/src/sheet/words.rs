@@ -60,6 +60,29 @@ impl Words {
         self.words.get(self.next).map(|word| word.text.as_str())
     }
 
+    /// Every word of the line, those that were read too.
+    pub fn all(&self) -> impl Iterator<Item = &Word> {
+        self.words.iter()
+    }
+
+    /// The word that begins the line.
+    pub fn first(&self) -> &str {
+        self.words.first().map_or("", |word| &word.text)
+    }
+
+    /// How many words were read.
+    pub fn read(&self) -> usize {
+        self.next
+    }
+
+    /// The words that were read, from one of them on, as one.
+    pub fn since(&self, first: usize) -> Word {
+        let words = &self.words[first..self.next];
+        let text = words.iter().map(|word| word.text.as_str()).collect::<Vec<_>>().join(" ");
+        let ends = words.first().zip(words.last());
+        Word { text, span: ends.map_or(0..0, |(first, last)| first.span.start..last.span.end) }
+    }
+
     pub fn next(&mut self, wanted: &str) -> Result<Word, Finding> {
         let word = self.words.get(self.next).cloned();
         self.next += 1;

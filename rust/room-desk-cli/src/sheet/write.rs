@@ -6,7 +6,7 @@ use crate::input::{Input, Names};
 use crate::recordings::Part;
 use crate::scene::count;
 use crate::scene::model::{Order, PAUSE, RESUME, Scene};
-use crate::units::{curve, decibels, millis, seconds, thousandths};
+use crate::units::{curve, decibels, exact, millis, seconds, thousandths};
 
 pub fn write(input: &Input, scene: &Scene) -> String {
     let sheet = Writer { input, scene, names: &input.names };
@@ -159,7 +159,8 @@ impl Writer<'_> {
                 }
                 _ => (["house", "visitor"][sound.from.min(1)].into(), sound.first),
             };
-        format!("{name} from {} for {}", self.time(first), self.time(sound.count))
+        let rate = self.scene.head.rate;
+        format!("{name} from {} for {}", exact(first, rate), exact(sound.count, rate))
     }
 
     /// A file that is joined twice is not meant by its name.
@@ -177,15 +178,6 @@ impl Writer<'_> {
             None => std::path::absolute(path).unwrap_or(path.to_path_buf()),
         };
         quoted(&named.display().to_string())
-    }
-
-    /// Seconds where they are exact, else frames.
-    fn time(&self, frames: i64) -> String {
-        let rate = self.scene.head.rate;
-        if frames * 1000 % rate == 0 {
-            return format!("{} s", thousandths(frames * 1000 / rate));
-        }
-        format!("{frames} frames")
     }
 
     /// What stands in another order than its tracks.

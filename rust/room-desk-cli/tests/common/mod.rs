@@ -40,7 +40,8 @@ pub struct Case {
 impl Case {
     pub fn input(&self) -> Input {
         let joined = |samples: &[f32]| Joined { samples: samples.to_vec(), parts: vec![] };
-        let recordings = Both { house: joined(&self.house), visitor: joined(&self.visitor) };
+        let (house, visitor) = (joined(&self.house), joined(&self.visitor));
+        let recordings = Both { house, visitor, ..Both::default() };
         Input { name: self.name.clone(), file: self.scene.clone(), recordings, ..Input::default() }
     }
 }

@@ -1,0 +1,185 @@
+//! What a new user met in a trial without the pages: a show, ten broken sheets, and what each says.
+
+mod common;
+
+use std::fs;
+use std::path::{Path, PathBuf};
+
+use common::{folder, run_in, status, text};
+use room_desk::wave::{self, Bits};
+
+/// The evening round, as it should be.
+const EVENING: &str = "\
+# The clockmaker's workshop, room 4. Evening round.
+rate 8000
+speakers 2
+length 24 s
+main -1 dB
+
+clock pendulum 60 per minute
+
+send chapel -7 dB
+
+track workshop -3 dB
+    play rain.wav
+    play rain.wav at 12 s
+    track bench -2 dB
+        play clockwork.wav
+        play clockwork.wav at 10 s
+        to chapel -9 dB
+    track apprentice -4 dB
+        play letter.wav from 3 s for 4 s at 6 s
+    track window 0 dB
+        track street 0 dB
+            play steps.wav at 10 s
+            place at 3 1.6 -4 near 3 far 15
+
+track organ -5 dB
+    play \"organ 1902.wav\"
+    to chapel -6 dB
+
+track patron -60 dB
+    play patron.wav
+    track patron-short -6 dB
+        play patron.wav from 1 s
+
+track reserve 0 dB
+    play letter.wav for 3 s
+
+listener at 0 1.6 0
+
+at 0 s      pause reserve
+at 0 s      pause organ
+at 3 s      resume organ over 1.5 s
+at 5.5 s    set organ to -18 dB over 1 s in-out 2
+at 6 s      set bench to -20 dB over 800 ms
+at 10.5 s   set bench to -2 dB over 1 s out 2
+at 11 s     set organ -> chapel to -20 dB over 2 s
+at 13 s     pause window over 600 ms
+at 15 s     resume window over 400 ms
+at tick 18 of pendulum   set workshop to -16 dB over 2 s
+at 20 s     set chapel to -60 dB over 2 s
+at 21.5 s   set main to -60 dB over 2 s in 2
+
+silent patron
+silent reserve
+";
+
+const RECORDINGS: [(&str, usize); 6] = [
+    ("clockwork.wav", 10),
+    ("letter.wav", 7),
+    ("organ 1902.wav", 9),
+    ("patron.wav", 3),
+    ("rain.wav", 12),
+    ("steps.wav", 8),
+];
+
+/// A quiet recording of some seconds.
+fn recording(rate: u32, seconds: usize) -> Vec<u8> {
+    wave::write(rate, 1, Bits::Sixteen, &vec![0.01; 2 * seconds * rate as usize]).unwrap()
+}
+
+/// A folder with the show's recordings.
+fn evening(name: &str) -> PathBuf {
+    let folder = folder(name);
+    for (file, seconds) in RECORDINGS {
+        fs::write(folder.join(file), recording(8000, seconds)).unwrap();
+    }
+    folder
+}
+
+/// What `check` says of the evening with some words changed, with its status.
+fn checked(folder: &Path, changes: &[(&str, &str)]) -> (i32, String) {
+    let sheet = changes.iter().fold(EVENING.to_string(), |sheet, (from, to)| {
+        assert!(sheet.contains(from), "{from}");
+        sheet.replacen(from, to, 1)
+    });
+    fs::write(folder.join("evening.show"), sheet).unwrap();
+    let output = run_in(folder, &["check", "evening.show"]);
+    (status(&output), text(&output.stdout) + &text(&output.stderr))
+}
+
+/// A sheet with such changes is refused, and the answer begins so.
+fn refused(folder: &Path, changes: &[(&str, &str)], expected: &str) {
+    let (code, said) = checked(folder, changes);
+    assert!(code == 1 && said.starts_with(expected), "{changes:?}: {code}: {said}");
+}
+
+#[test]
+fn the_evening_is_accepted_without_a_warning() {
+    let (code, said) = checked(&evening("trial-evening"), &[]);
+    assert!(code == 0 && said.starts_with("accepted: 192,000 frames"), "{said}");
+    assert!(!said.contains("warning") && !said.contains("note"), "{said}");
+}
+
+/// Sheet 05: rates are compared before anything is reckoned from a length.
+#[test]
+fn rates_come_first() {
+    let folder = evening("trial-rates");
+    refused(
+        &folder,
+        &[("rate 8000\n", "")],
+        "evening.show: there is no `rate` line, so the rate is 48000; all recordings have 8000\n    \
+         allowed: the line `rate 8000` at its head\n",
+    );
+    refused(
+        &folder,
+        &[("rate 8000\n", "rate 44100\n")],
+        "evening.show:2:6: the rate is 44100; all recordings have 8000\n    rate 44100\n         \
+         ^^^^^\n    allowed: the line `rate 8000`\n",
+    );
+    fs::write(folder.join("steps.wav"), recording(16_000, 8)).unwrap();
+    let other = "evening.show:22:18: `steps.wav` has 16000 frames a second, the show 8000\n";
+    refused(&folder, &[], other);
+    let (_, said) = checked(&folder, &[]);
+    let mend = "`play steps-8000.wav`, made by `sox steps.wav -r 8000 steps-8000.wav`";
+    assert!(said.contains(mend), "{said}");
+    let any = run_in(&folder, &["check", "evening.show", "--any-rate"]);
+    assert_eq!(status(&any), 0, "{}", text(&any.stdout));
+    let most =
+        "evening.show: there is no `rate` line, so the rate is 48000; most recordings have 8000";
+    refused(&folder, &[("rate 8000\n", "")], most);
+}
+
+/// Sheet 08: the part is marked, and parts that fit are proposed.
+#[test]
+fn parts_that_are_too_long() {
+    let folder = evening("trial-parts");
+    let part = "from 3 s for 4 s";
+    refused(
+        &folder,
+        &[(part, "from 4 s for 4 s")],
+        "evening.show:19:25: `from 4 s for 4 s` ends at 8.000 s, but letter.wav is 7.000 s long\n",
+    );
+    for (written, what, allowed) in [
+        ("from 4 s for 4 s", "ends at 8.000 s", "`from 4 s for 3 s` or `from 3 s for 4 s`"),
+        ("from 6.5 s for 1 s", "ends at 7.500 s", "`from 6.5 s for 0.5 s` or `from 6 s for 1 s`"),
+        ("for 9 s", "ends at 9.000 s", "`for 7 s`"),
+        ("from 8 s", "begins behind the end: letter.wav is 7.000 s long", "`from` before 7.000 s"),
+        ("from 8 s for 2 s", "begins behind the end", "`from 5 s for 2 s`"),
+    ] {
+        let (code, said) = checked(&folder, &[(part, written)]);
+        let first = format!("evening.show:19:25: `{written}` {what}");
+        assert!(code == 1 && said.starts_with(&first), "{said}");
+        let mark = format!("{}{}\n", " ".repeat(28), "^".repeat(written.len()));
+        assert!(said.contains(&mark) && said.contains(&format!("allowed: {allowed}\n")), "{said}");
+    }
+}
+
+/// Sheet 02: the line, what the file has, what to write instead and how to make it.
+#[test]
+fn a_recording_of_another_kind() {
+    let folder = evening("trial-kinds");
+    let mut deep = recording(8000, 8);
+    deep[34] = 24;
+    fs::write(folder.join("steps.wav"), deep).unwrap();
+    refused(
+        &folder,
+        &[],
+        "evening.show:22:18: `steps.wav` is not read: it has 24-bit samples in 1 channel\n                \
+         play steps.wav at 10 s\n                     ^^^^^^^^^\n    \
+         allowed: `play steps-16.wav` here, once that file is made\n    \
+         as 16-bit:  sox steps.wav -b 16 steps-16.wav\n    \
+         as float:   sndfile-convert -float32 steps.wav steps-float.wav\nrefused 15: the samples",
+    );
+}
