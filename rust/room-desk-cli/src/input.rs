@@ -159,6 +159,13 @@ impl Input {
         }
     }
 
+    /// A `play` line of the sheet has made this line of the scene file.
+    pub fn plays(&self, line: usize) -> bool {
+        let Some((sheet, lines)) = &self.sheet else { return false };
+        let text = lines.get(&line).and_then(|line| sheet.lines().nth(line - 1));
+        text.and_then(|text| text.split_whitespace().next()) == Some("play")
+    }
+
     /// The line to show for one of the scene file: a sheet's own.
     pub fn line(&self, line: usize) -> Option<usize> {
         match &self.sheet {

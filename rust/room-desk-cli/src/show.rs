@@ -4,7 +4,7 @@ use crate::input::{Input, Names};
 use crate::scene::model::{Order, PAUSE, Scene};
 use crate::scene::{commas, count};
 use crate::silence::Answer;
-use crate::units::{PER, about, curve, decibels, millis, seconds, thousandths};
+use crate::units::{about, curve, decibels, millis, seconds, thousandths};
 use crate::warnings::target;
 
 type Row = Vec<String>;
@@ -69,10 +69,8 @@ struct View<'a> {
 impl View<'_> {
     fn clocks(&self) -> Vec<Row> {
         let rows = self.scene.clocks.iter().enumerate().map(|(at, clock)| {
-            let unit = PER.get(clock.unit as usize).copied().unwrap_or("");
-            let speed = format!("{} {unit}", thousandths(clock.speed));
             let state = if clock.ticking == 1 { "runs" } else { "never runs" };
-            vec![self.names.clock(at + 1), speed, state.into()]
+            vec![self.names.clock(at + 1), clock.pace(), state.into()]
         });
         rows.collect()
     }

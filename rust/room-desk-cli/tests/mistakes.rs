@@ -303,21 +303,21 @@ fn warnings_have_places_and_come_with_the_render() {
         (leak, "donor is at -60 dB or less, but donor-low below it is heard through hall"),
         (
             night.replacen("play sea.wav at 5 s", "play sea.wav at 8 s", 1),
-            "x.show:13: sea.wav: its last 4.000 s lie",
+            "x.show:13: sea.wav is cut: its last 4.000 s lie",
         ),
         (
             night.replacen("per minute", "per minute stopped", 1),
-            "x.show:38: track volume of room: beat never runs",
+            "x.show:38: tick 7 of beat never comes, since beat is stopped: this line is never",
         ),
         (night.replacen("speakers 2", "speakers 4", 1), "speakers above the second stay at zero"),
         ("rate 8000\nlength 1 s\n".into(), "nothing plays: every sample will be zero"),
         (
             "rate 8000\nlength 3 s\ntrack donor -60 dB\nplay name.wav\n".into(),
-            "x.show:4: name.wav: it plays below no track, past the one above",
+            "x.show:4: name.wav plays below no track, past the one above",
         ),
         (
             "rate 8000\nlength 4 s\ntrack donor -60 dB\nplay name.wav at 1 s\n".into(),
-            "x.show:4: name.wav: it plays below no track, past the one above",
+            "x.show:4: name.wav plays below no track, past the one above",
         ),
         (
             "rate 8000\nlength 1 s\nmain 18 dB\nplay bells.wav for 1 s\n".into(),

@@ -112,6 +112,14 @@ fn the_evening_is_accepted_without_a_warning() {
     assert!(!said.contains("warning") && !said.contains("note"), "{said}");
 }
 
+/// A sheet with such changes is accepted with this warning alone, or with none.
+fn warned(folder: &Path, changes: &[(&str, &str)], expected: &str) {
+    let (code, said) = checked(folder, changes);
+    let warnings: Vec<&str> = said.lines().filter_map(|l| l.strip_prefix("warning: ")).collect();
+    let only = if expected.is_empty() { vec![] } else { vec![expected] };
+    assert!(code == 0 && warnings == only, "{changes:?}: {code}: {said}");
+}
+
 /// Sheet 05: rates are compared before anything is reckoned from a length.
 #[test]
 fn rates_come_first() {
@@ -182,4 +190,97 @@ fn a_recording_of_another_kind() {
          as 16-bit:  sox steps.wav -b 16 steps-16.wav\n    \
          as float:   sndfile-convert -float32 steps.wav steps-float.wav\nrefused 15: the samples",
     );
+}
+
+/// Sheet 07: what a `silent` line keeps silent is heard on another track.
+#[test]
+fn what_is_kept_silent_is_heard_elsewhere() {
+    let folder = evening("trial-elsewhere");
+    let below = "    track patron-short -6 dB\n        play patron.wav from 1 s\n";
+    let beside = "track patron-short -6 dB\n    play patron.wav from 1 s\n";
+    warned(
+        &folder,
+        &[(below, beside)],
+        "evening.show:32: patron.wav is heard in patron-short, which is not proved silent, though \
+         line 52, `silent patron`, keeps the same 2 s of it silent in line 30",
+    );
+    warned(
+        &folder,
+        &[("play clockwork.wav at 10 s", "play patron.wav for 1 s at 10 s")],
+        "evening.show:16: patron.wav is heard in bench, which is not proved silent, though line 52, \
+         `silent patron`, keeps the same 1 s of it silent in line 30",
+    );
+    // Another part of the recording is no breach, and neither is one that is silent too.
+    warned(&folder, &[("play letter.wav for 3 s", "play letter.wav for 2 s")], "");
+    warned(&folder, &[("play letter.wav for 3 s", "play patron.wav")], "");
+}
+
+/// What waits to be played stands still while its track, or one around it, is paused.
+#[test]
+fn a_pause_makes_later_sounds_late() {
+    let folder = evening("trial-late");
+    let pause = ("at 13 s     pause window over 600 ms", "at 6 s pause window over 500 ms");
+    let resume = ("at 15 s     resume window over 400 ms", "at 8 s resume window");
+    warned(
+        &folder,
+        &[pause, resume],
+        "evening.show:22: steps.wav begins at about 11.5 s, not at 10 s: line 46 pauses window at \
+         6.000 s, and what waits there stands still; in a track that is not paused it begins at 10 s",
+    );
+    warned(
+        &folder,
+        &[pause, (resume.0, "")],
+        "evening.show:22: steps.wav never begins: line 46 pauses window at 6.000 s, and what waits \
+         there stands still; in a track that is not paused it begins at 10 s",
+    );
+    // A pause that is taken back at once makes nothing late.
+    warned(&folder, &[("pause organ", "pause organ\nat 5 s pause bench\nat 5 s resume bench")], "");
+    // A track that is held is silent, as it was meant.
+    warned(&folder, &[("play letter.wav for 3 s", "play letter.wav for 3 s at 2 s")], "");
+}
+
+/// A group that is turned down goes on sending; one that is paused does not.
+#[test]
+fn turning_a_group_down_does_not_stop_its_sends() {
+    let folder = evening("trial-sends");
+    let order = "at 5.5 s    set organ to -18 dB over 1 s in-out 2";
+    let down = (order, "at 5.5 s set workshop to -60 dB");
+    warned(
+        &folder,
+        &[down],
+        "evening.show:42: workshop goes to -60 dB, but what tracks below it send is heard on: bench \
+         -> chapel (line 17); `pause workshop` stops it",
+    );
+    let shut = "at 5 s set bench -> chapel to -60 dB\nat 5.5 s set workshop to -60 dB";
+    warned(&folder, &[(order, shut)], "");
+    warned(&folder, &[(order, "at 5.5 s set organ to -60 dB")], "");
+    warned(
+        &folder,
+        &[("track workshop -3 dB", "track workshop -60 dB")],
+        "evening.show:17: workshop is at -60 dB at first, but bench below it is heard through chapel",
+    );
+}
+
+/// Sheet 04, and orders for what is not so.
+#[test]
+fn orders_that_do_nothing() {
+    let folder = evening("trial-orders");
+    warned(
+        &folder,
+        &[("60 per minute", "every 60 s")],
+        "evening.show:48: tick 18 of pendulum comes at 1080.000 s (line 7: every 60 s), after the \
+         show's end at 24.000 s: this line is never carried out",
+    );
+    warned(
+        &folder,
+        &[("pause window", "pause street")],
+        "evening.show:47: window is not paused then: line 46 pauses street, which is never resumed",
+    );
+    warned(
+        &folder,
+        &[("at 0 s      pause organ\n", "")],
+        "evening.show:40: organ is not paused then",
+    );
+    // Paused and never resumed is no mistake.
+    warned(&folder, &[("at 15 s     resume window over 400 ms", "")], "");
 }

@@ -23,6 +23,7 @@ use columns::decibels_of;
 use probes::Probes;
 
 pub use columns::peak;
+pub use probes::first_advance;
 
 /// Where lanes begin, how wide they are, and what is left for scales.
 const LEFT: f64 = 236.0;

@@ -95,6 +95,16 @@ fn in_parallel<T: Sync, R: Send>(
     Ok(all)
 }
 
+/// The first second in which a track and all above it advance, if there is one; none where that cannot
+/// be measured.
+pub fn first_advance(scene: &Scene, track: usize) -> Option<Option<f64>> {
+    let constant = vec![SMALL; scene.frames() * 2];
+    let prober = Prober { scene, constant, house: vec![], visitor: vec![] };
+    let advances = prober.advances(track).ok()??;
+    let first = advances.iter().position(|sample| *sample != 0.0);
+    Some(first.map(|frame| frame as f64 / scene.rate()))
+}
+
 struct Prober<'a> {
     scene: &'a Scene,
     constant: Samples,

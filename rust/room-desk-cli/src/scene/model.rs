@@ -2,6 +2,7 @@
 
 use super::tables::{Kind, Table, tables};
 use super::text::{self, Row, Rows};
+use crate::units::thousandths;
 
 /// The first table.
 #[derive(Debug, Clone, PartialEq, Default)]
@@ -89,6 +90,16 @@ pub struct Scene {
 }
 
 impl Clock {
+    /// How fast it ticks, as a sheet writes it.
+    pub fn pace(&self) -> String {
+        let speed = thousandths(self.speed);
+        match self.unit {
+            0 => format!("every {speed} s"),
+            1 => format!("{speed} per second"),
+            _ => format!("{speed} per minute"),
+        }
+    }
+
     pub fn ticks_per_second(&self) -> f64 {
         let speed = self.speed as f64 / 1000.0;
         match self.unit {
@@ -265,8 +276,57 @@ impl Scene {
 
     /// The routes through which a track that is turned down is heard: those of tracks below it.
     pub fn leaks(&self, track: usize) -> Vec<&Route> {
-        let below = |route: &&Route| self.below(route.track, track);
-        if self.turned_down(track) { self.routes.iter().filter(below).collect() } else { vec![] }
+        let down = self.turned_down(track);
+        self.routes_below(track).filter(|_| down).map(|(_, route)| route).collect()
+    }
+
+    /// The routes of tracks below a track, each with its place among all of them.
+    pub fn routes_below(&self, track: usize) -> impl Iterator<Item = (usize, &Route)> {
+        let routes = self.routes.iter().enumerate();
+        routes.filter(move |(_, route)| self.below(route.track, track))
+    }
+
+    /// The routes that an order leaves open though it turns the track above them down.
+    pub fn still_sent(&self, order: &Order) -> Vec<(usize, &Route)> {
+        let down = order.kind == 1 && order.volume <= SILENT;
+        let Some(begins) = self.begins_at(order).filter(|_| down) else { return vec![] };
+        let until = begins + order.millis as f64 / 1000.0;
+        let open = self.routes_below(order.index);
+        open.filter(|(at, route)| self.plays(route.track) && !self.shut(*at, route, until))
+            .collect()
+    }
+
+    /// Something plays on a track or below it.
+    fn plays(&self, track: usize) -> bool {
+        self.sounds.iter().any(|sound| sound.track > 0 && self.path(sound.track).contains(&track))
+    }
+
+    /// Nothing goes through a route at some second: it, an end of it or main is turned down too, or a
+    /// track above it is paused.
+    fn shut(&self, at: usize, route: &Route, second: f64) -> bool {
+        let (track, send) = (self.tracks[route.track - 1].volume, self.sends[route.send - 1]);
+        let volumes = [
+            (0, 0, self.head.volume),
+            (1, route.track, track),
+            (2, route.send, send),
+            (3, at + 1, route.volume),
+        ];
+        let quiet = |(kind, index, first): (i64, usize, i64)| {
+            let last = self.last(second, |o| (o.kind, o.index) == (kind, index));
+            last.map_or(first, |order| order.volume) <= SILENT
+        };
+        let paused = |track: usize| {
+            let last = self.last(second, |o| o.kind >= PAUSE && o.index == track);
+            last.is_some_and(|order| order.kind == PAUSE)
+        };
+        volumes.into_iter().any(quiet) || self.path(route.track).into_iter().any(paused)
+    }
+
+    /// The last order of a sort that has begun by some second.
+    fn last(&self, second: f64, sort: impl Fn(&Order) -> bool) -> Option<&Order> {
+        let begun = |order: &&Order| self.begins_at(order).is_some_and(|begins| begins <= second);
+        let all = self.orders.iter().filter(|order| sort(order)).filter(begun);
+        all.max_by(|a, b| self.read_at(a).total_cmp(&self.read_at(b)))
     }
 }
 

@@ -69,12 +69,7 @@ impl Writer<'_> {
     fn clocks_and_sends(&self) -> String {
         let mut out = String::new();
         for (at, clock) in self.scene.clocks.iter().enumerate() {
-            let speed = thousandths(clock.speed);
-            let speed = match clock.unit {
-                0 => format!("every {speed} s"),
-                1 => format!("{speed} per second"),
-                _ => format!("{speed} per minute"),
-            };
+            let speed = clock.pace();
             let stopped = if clock.ticking == 1 { "" } else { " stopped" };
             out += &format!("clock {} {speed}{stopped}\n", self.names.clock(at + 1));
         }
