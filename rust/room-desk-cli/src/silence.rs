@@ -1,5 +1,7 @@
 //! Which tracks are proved silent, by the proved routine alone.
 
+use std::ops::Range;
+
 use room_desk::Silence;
 
 use crate::guess::meant;
@@ -64,68 +66,145 @@ pub fn track_named(name: &str, scene: &Scene, names: &Names) -> Done<usize> {
     })
 }
 
-/// `, since ...`: what stands against a track's silence (docs/SILENCE.md), where it can be seen.
-pub fn why_not(track: usize, input: &Input, scene: &Scene) -> String {
-    let mut why = vec![];
-    let volume = scene.tracks[track - 1].volume;
-    if volume > SILENT {
-        why.push(format!("it is at {}", decibels(volume)));
-    }
-    let of_track = scene.orders.iter().filter(|o| [1, PAUSE, RESUME].contains(&o.kind));
-    for order in of_track.filter(|order| order.index == track) {
-        let line = input.line(order.line).map_or("an order".into(), |line| format!("line {line}"));
-        let against = match order.kind {
-            1 if order.volume > SILENT => Some(format!("sets it to {}", decibels(order.volume))),
-            // Pauses and resumes matter where it is not turned down.
-            PAUSE | RESUME if !scene.turned_down(track) => not_held(order, scene),
-            _ => None,
-        };
-        why.extend(against.map(|what| format!("{line} {what}")));
-    }
-    why.extend(scene.leaks(track).into_iter().map(|route| {
-        let (below, send) = (input.names.track(route.track), input.names.send(route.send));
-        format!("{below} below it goes to {send}")
-    }));
-    if why.is_empty() { String::new() } else { format!(", since {}", why.join(" and ")) }
+/// What stands against a track's silence (docs/SILENCE.md), where it can be seen, and what mends it.
+#[derive(Debug, Default)]
+pub struct Against {
+    /// `, since ...`, or nothing.
+    pub why: String,
+    pub allowed: String,
 }
 
-/// What an order does other than pausing at once before the first block.
-fn not_held(order: &Order, scene: &Scene) -> Option<String> {
-    let at = seconds(scene.read_at(order));
-    match order.kind {
-        RESUME => Some(format!("resumes it at {at}")),
-        _ if order.block > 0 => Some(format!("pauses it at {at} only")),
-        _ if order.waits() => Some("pauses it after a wait".into()),
-        _ if order.millis > 0 => Some(format!("takes {} to pause it", millis(order.millis))),
-        _ => None,
-    }
+/// Looks where silence was tried: at the track, then at those around it, its pauses before its level.
+pub fn against(track: usize, input: &Input, scene: &Scene) -> Against {
+    let path = scene.path(track);
+    let tried = path.iter().find_map(|&outer| {
+        let seen = Seen { input, scene, track, outer };
+        seen.not_held().or_else(|| seen.not_muted())
+    });
+    tried.unwrap_or_else(|| Against {
+        why: format!(", since it is at {}", decibels(scene.tracks[track - 1].volume)),
+        allowed: either(&input.names.track(track)),
+    })
 }
 
 /// What makes a track silent.
-pub fn mend(name: &str) -> String {
+pub fn either(name: &str) -> String {
     format!(
-        "{name} at -60 dB or less all through and no track below it routed, or `at 0 s pause {name}` \
-         and no other pause or resume of it"
+        "`at 0 s pause {name}` and no other pause or resume of it; or {name} at -60 dB or less all \
+         through and no track below it routed"
     )
+}
+
+/// A track that should be silent, and itself or one around it that would make it so.
+struct Seen<'a> {
+    input: &'a Input,
+    scene: &'a Scene,
+    track: usize,
+    outer: usize,
+}
+
+impl Seen<'_> {
+    fn line(&self, order: &Order) -> String {
+        self.input.line(order.line).map_or("an order".into(), |line| format!("line {line}"))
+    }
+
+    /// Why a track that is paused is not held.
+    fn not_held(&self) -> Option<Against> {
+        let states = self.scene.orders.iter().filter(|o| o.kind >= PAUSE && o.index == self.outer);
+        // `play ... at` resumes the track that it makes.
+        let states: Vec<&Order> = states.filter(|o| !self.input.plays(o.line)).collect();
+        let name = self.input.names.track(self.outer);
+        let hold = format!("`at 0 s pause {name}`");
+        let mut why: Vec<String> = states.iter().filter_map(|o| self.breaks(o)).collect();
+        if why.is_empty() && states.len() > 1 {
+            let lines = states.iter().map(|o| self.line(o)).collect::<Vec<_>>().join(" and ");
+            why.push(format!("{lines} both pause {}", self.it()));
+        }
+        let allowed = match &states[..] {
+            [only] if only.kind == PAUSE && only.block == 0 && only.millis > 0 && !only.waits() => {
+                format!("{hold}, without `over`")
+            }
+            [only] if only.kind == PAUSE => hold,
+            _ => format!("{hold} and no other pause or resume of {name}"),
+        };
+        self.since(why, allowed)
+    }
+
+    /// What an order does other than pausing at once before the first block.
+    fn breaks(&self, order: &Order) -> Option<String> {
+        let (line, it) = (self.line(order), self.it());
+        let at = seconds(self.scene.read_at(order));
+        match order.kind {
+            RESUME if self.outer != self.track => {
+                Some(format!("{it} is resumed by {line} at {at}"))
+            }
+            RESUME => Some(format!("{line} resumes {it} at {at}")),
+            _ if order.block > 0 => Some(format!("{line} pauses {it} at {at} only")),
+            _ if order.waits() => Some(format!("{line} pauses {it} after a wait")),
+            _ if order.millis > 0 => {
+                Some(format!("{line} takes {} to pause {it}", millis(order.millis)))
+            }
+            _ => None,
+        }
+    }
+
+    /// Why a track at -60 dB is not muted.
+    fn not_muted(&self) -> Option<Against> {
+        let (scene, names) = (self.scene, &self.input.names);
+        if scene.tracks[self.outer - 1].volume > SILENT {
+            return None;
+        }
+        let loud = scene.orders.iter().filter(|o| o.kind == 1 && o.index == self.outer);
+        let loud = loud.filter(|order| order.volume > SILENT).map(|order| {
+            format!("{} sets {} to {}", self.line(order), self.it(), decibels(order.volume))
+        });
+        let routed = scene.routes_below(self.outer).map(|(_, route)| {
+            let below = names.track(route.track);
+            format!("{below} below {} goes to {}", self.it(), names.send(route.send))
+        });
+        let why = loud.chain(routed).collect();
+        self.since(why, either(&names.track(self.outer)))
+    }
+
+    fn it(&self) -> String {
+        match self.outer {
+            outer if outer == self.track => "it".into(),
+            outer => format!("{}, around it,", self.input.names.track(outer)),
+        }
+    }
+
+    fn since(&self, why: Vec<String>, allowed: String) -> Option<Against> {
+        let why = why.join(" and ");
+        let said = format!(", since {}", why.strip_suffix(',').unwrap_or(&why));
+        (!why.is_empty()).then_some(Against { why: said, allowed })
+    }
 }
 
 /// The refusal of a sheet whose `silent` lines are not proved; empty where they are.
 pub fn refusal(input: &Input, scene: &Scene, answer: &Answer, paint: Paint) -> Done<String> {
     let mut found = vec![];
+    let sheet = input.sheet.as_ref().map_or("", |sheet| sheet.0.as_str());
     for (line, name) in &input.silent {
         let track = track_named(name, scene, &input.names)?;
         if !answer.proved(track) {
-            let why = why_not(track, input, scene);
+            let Against { why, allowed } = against(track, input, scene);
             let what = format!("{name} is not proved silent{why}");
-            found.push(Finding::of_line(*line, what, mend(name)));
+            let span = sheet.lines().nth(line - 1).and_then(|text| name_in(text, name));
+            found.push(Finding { span, ..Finding::of_line(*line, what, allowed) });
         }
     }
     if found.is_empty() {
         return Ok(String::new());
     }
-    let sheet = input.sheet.as_ref().map_or("", |sheet| sheet.0.as_str());
     let first = format!("{}: a `silent` line is not proved\n", paint.bad("refused"));
     Ok(first + &report::findings(&input.name, sheet, &found, paint))
+}
+
+/// Where the name stands in a `silent` line.
+fn name_in(text: &str, name: &str) -> Option<Range<usize>> {
+    let behind = text.find("silent")? + "silent".len();
+    let start = behind + text[behind..].find(name)?;
+    Some(start..start + name.len())
 }
 
 /// Refuses a sheet whose `silent` lines are not proved.

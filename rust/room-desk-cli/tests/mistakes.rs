@@ -268,11 +268,7 @@ fn silence_that_is_not_proved() {
         ),
         ("track donor -60", "track donor -50", "since it is at -50 dB"),
         ("at 6 s    pause guide", "at 6 s set donor to 0 dB", "since line 37 sets it to 0 dB"),
-        (
-            "at 0 s    pause spare",
-            "at 1 s pause spare",
-            "since it is at 0 dB and line 32 pauses it at 1.000 s only",
-        ),
+        ("at 0 s    pause spare", "at 1 s pause spare", "since line 32 pauses it at 1.000 s only"),
         ("at 0 s    pause spare", "at 0 s pause spare over 1 s", "line 32 takes 1 s to pause it"),
         ("at 0 s    pause spare", "at 0 s wait 1 s pause spare", "line 32 pauses it after a wait"),
         ("at 6 s    pause guide", "at 6 s resume spare", "line 37 resumes it at 6.000 s"),

@@ -284,3 +284,41 @@ fn orders_that_do_nothing() {
     // Paused and never resumed is no mistake.
     warned(&folder, &[("at 15 s     resume window over 400 ms", "")], "");
 }
+
+/// Sheet 03: a hold that is broken names the line that breaks it, also where it holds a track around.
+#[test]
+fn a_broken_hold_names_its_line() {
+    let folder = evening("trial-holds");
+    let pause = "at 0 s      pause reserve\n";
+    let fade = "at 0 s      pause reserve over 500 ms\n";
+    let first = "refused: a `silent` line is not proved\nevening.show:53:8: reserve is not proved \
+                 silent, since line 39 takes 500 ms to pause it\n    silent reserve\n           \
+                 ^^^^^^^\n    allowed: `at 0 s pause reserve`, without `over`\n";
+    refused(&folder, &[(pause, fade)], first);
+    let inner =
+        ("    play letter.wav for 3 s\n", "    track reading\n        play letter.wav for 3 s\n");
+    let asked = ("silent reserve", "silent reading");
+    for (to, why, allowed) in [
+        (
+            "at 0 s pause reserve\nat 10 s resume reserve\n",
+            "since reserve, around it, is resumed by line 41 at 10.000 s\n",
+            "`at 0 s pause reserve` and no other pause or resume of reserve\n",
+        ),
+        (
+            "at 0 s pause reserve\nat 0 s pause reserve\n",
+            "since line 40 and line 41 both pause reserve, around it\n",
+            "`at 0 s pause reserve` and no other pause or resume of reserve\n",
+        ),
+        (fade, "since line 40 takes 500 ms to pause reserve, around it\n", "without `over`\n"),
+        (
+            "at 2 s pause reserve\n",
+            "line 40 pauses reserve, around it, at 2.000 s only\n",
+            "`at 0 s pause reserve`\n",
+        ),
+        ("at 2 s set organ to -9 dB\n", "since it is at 0 dB\n", "`at 0 s pause reading` and"),
+    ] {
+        let (code, said) = checked(&folder, &[(pause, to), inner, asked]);
+        let parts = ["reading is not proved silent, ", why, "    allowed: ", allowed];
+        assert!(code == 1 && parts.iter().all(|part| said.contains(part)), "{said}");
+    }
+}

@@ -83,10 +83,9 @@ fn silence(
             text += &format!("{}: {name}, {reason}\n", paint.good("silent"));
         } else if at >= own.len() {
             proved = false;
-            let why = silence::why_not(track, input, scene);
-            let mend = silence::mend(name);
+            let silence::Against { why, allowed } = silence::against(track, input, scene);
             let first = paint.bad("not proved silent");
-            text += &format!("{first}: {name}{why}\n    allowed: {mend}\n");
+            text += &format!("{first}: {name}{why}\n    allowed: {allowed}\n");
         }
     }
     Ok((text, proved))

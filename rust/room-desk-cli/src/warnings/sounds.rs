@@ -119,9 +119,8 @@ impl Sounds<'_> {
             let kept = |other: &Sound| {
                 other.track == track || (other.track > 0 && scene.below(other.track, track))
             };
-            let Some(at) = scene.sounds.iter().position(|other| kept(other) && same(other)) else {
-                continue;
-            };
+            let found = scene.sounds.iter().position(|other| kept(other) && same(other));
+            let Some(at) = found.filter(|_| self.silence.proved(track)) else { continue };
             let other = &scene.sounds[at];
             let both = ends(sound).min(ends(other)) - sound.first.max(other.first);
             let long = exact(both, scene.head.rate);
