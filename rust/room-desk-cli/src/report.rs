@@ -49,11 +49,11 @@ pub fn headline(number: u32, paint: Paint) -> String {
 }
 
 fn refusal(input: &Input, number: u32, paint: Paint) -> String {
-    let mut out = headline(number, paint);
+    let first = headline(number, paint);
     // Only an explanation of the same number explains.
     let explained = explain(&input.file, input.recordings.samples());
     let Some((_, mut found)) = explained.filter(|explained| explained.0 == number) else {
-        return out;
+        return first;
     };
     let loud = if number == 9 { loud_parts(input) } else { vec![] };
     match (&input.sheet, input.scene()) {
@@ -61,16 +61,15 @@ fn refusal(input: &Input, number: u32, paint: Paint) -> String {
             let reword = |finding| sheet::reworded(input, &scene, number, finding);
             found = if loud.is_empty() { found.iter().map(reword).collect() } else { loud };
             found.dedup();
-            out += &findings(&input.name, sheet, &found, paint);
+            // Places first: who writes sheets knows no numbers.
+            findings(&input.name, sheet, &found, paint) + &first
         }
         _ => {
             let scene = String::from_utf8_lossy(&input.file);
             found = if loud.is_empty() { found } else { loud };
-            out += &findings(&input.name, &scene, &found, paint);
-            out += like_a_sheet(&scene);
+            first + &findings(&input.name, &scene, &found, paint) + like_a_sheet(&scene)
         }
     }
-    out
 }
 
 /// A sheet that was saved under another ending is read as a scene file, and refused as one.

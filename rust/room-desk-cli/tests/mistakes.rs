@@ -65,19 +65,28 @@ fn lines_of_a_sheet() {
             "    play name.wav\n",
             "send extra\n    play name.wav\n",
             1,
-            ["`name.wav` stands below no track", "line 25, at the margin, has ended"],
+            [
+                "night.show:25:1: `send`, at the margin, ends the track donor",
+                "`play` in line 26 stands",
+            ],
         ),
         (
             "    track donor-low 0 dB\n",
             "send extra\n    track donor-low 0 dB\n",
             1,
-            ["`track` stands below no track", "line 26, at the margin, has ended"],
+            [
+                "night.show:26:1: `send`, at the margin, ends the track donor",
+                "`track` in line 27 stands",
+            ],
         ),
         (
             "    play name.wav\n",
             "play name.wav\n    to hall\n",
             1,
-            ["below no track", "at the margin, has ended"],
+            [
+                "`play`, at the margin, ends the track donor",
+                "this line indented below donor, as line 26",
+            ],
         ),
         (
             "pause guide",
@@ -128,16 +137,16 @@ fn refusals_in_the_words_of_the_sheet() {
         (
             "track guide -6",
             "track guide 60",
-            ["refused 4", "x.show:21: guide is at 60 dB", "-96 dB to 18 dB"],
+            ["refused 4", "x.show:21:21: guide is at 60 dB", "to 18 dB (did you mean `-60 dB`?)"],
         ),
-        ("main -2", "main 20", ["refused 4", "x.show:5: main is at 20 dB", "-96 dB to 18 dB"]),
+        ("main -2", "main 20", ["refused 4", "x.show:5:6: main is at 20 dB", "-96 dB to 18 dB"]),
         ("set bells to -18", "set bells to 19", ["refused 4", "level is 19 dB", "-96 dB to 18 dB"]),
         (
             "length 10 s",
             "length 3 min",
             ["refused 4", "the show is 180.", "up to 65.536 s at 8000 Hz, 524,288 frames"],
         ),
-        ("speakers 2", "speakers 12", ["refused 4", "x.show:3: 12 speakers", "1 to 8"]),
+        ("speakers 2", "speakers 12", ["refused 4", "x.show:3:10: 12 speakers", "1 to 8"]),
         (
             "rate 8000",
             "rate 4000",

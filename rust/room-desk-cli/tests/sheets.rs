@@ -173,7 +173,7 @@ fn a_refused_sheet_names_its_own_line() {
     let said = text(&output.stdout);
     assert!(
         said.contains(
-            "loud.show:5: x is at 30 dB\n    track x 30 dB\n    allowed: -96 dB to 18 dB"
+            "loud.show:5:9: x is at 30 dB\n    track x 30 dB\n            ^^^^^\n    allowed: -96 dB to 18 dB"
         ),
         "{said}"
     );

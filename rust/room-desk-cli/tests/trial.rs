@@ -322,3 +322,111 @@ fn a_broken_hold_names_its_line() {
         assert!(code == 1 && parts.iter().all(|part| said.contains(part)), "{said}");
     }
 }
+
+/// Sheet 01: the line that ends the track is told, not the one behind it.
+#[test]
+fn a_line_among_the_tracks() {
+    let order = "at 13 s     pause window over 600 ms\n";
+    let moved = format!("    track window 0 dB\n{order}");
+    refused(
+        &evening("trial-among"),
+        &[(order, ""), ("    track window 0 dB\n", &moved)],
+        "evening.show:21:1: `at`, at the margin, ends the track window: `track` in line 22 stands below \
+         no track\n    at 13 s     pause window over 600 ms\n    ^^\n    allowed: this line behind the \
+         tracks; line 22 then stands below window\n",
+    );
+}
+
+/// Sheet 06: a recording's name where a track's was wanted; made names stand last.
+#[test]
+fn a_recording_for_a_track() {
+    let folder = evening("trial-names");
+    refused(
+        &folder,
+        &[("pause window", "pause steps")],
+        "evening.show:46:19: `steps` is no track here: steps.wav is a recording, played by line 22 in \
+         street\n    at 13 s     pause steps over 600 ms\n                      ^^^^^\n    allowed: the \
+         track street, or around it window or workshop\n",
+    );
+    for (from, to, parts) in [
+        (
+            "silent patron",
+            "silent patron.wav",
+            ["evening.show:52:8: `patron.wav` is", "patron-short"],
+        ),
+        (
+            "set bench to -20",
+            "set clockwork to -20",
+            ["evening.show:43:17: `clock", "the track bench"],
+        ),
+        (
+            "silent patron",
+            "silent nobody",
+            ["patron, patron-short, reserve, rain@12s", "evening.show:52:8"],
+        ),
+    ] {
+        let (code, said) = checked(&folder, &[(from, to)]);
+        assert!(code == 1 && parts.iter().all(|part| said.contains(part)), "{said}");
+    }
+}
+
+/// Sheets 09 and 10: the place and the cause, then the number.
+#[test]
+fn places_come_before_numbers() {
+    let folder = evening("trial-places");
+    refused(
+        &folder,
+        &[("to -20 dB over 800", "to 20 dB over 800")],
+        "evening.show:43:26: the order's level is 20 dB\n    at 6 s      set bench to 20 dB over 800 ms\n\
+         \x20                            ^^^^^\n    allowed: -96 dB to 18 dB (did you mean `-20 dB`?)\n\
+         refused 4: a field is out of its range\n",
+    );
+    refused(
+        &folder,
+        &[("at 21.5 s   set", "at 215 s    set")],
+        "evening.show:50:4: the order comes at 215.000 s\n    at 215 s    set main to -60 dB over 2 s in \
+         2\n       ^^^^^\n    allowed: before the show's end at 24.000 s\nrefused 4: a field",
+    );
+    // A level above 0 is one.
+    warned(&folder, &[("to -20 dB over 800", "to 18 dB over 800")], "");
+}
+
+/// Words that a new user tried.
+#[test]
+fn words_that_are_tried() {
+    let folder = evening("trial-words");
+    let silenced = "`at 0 s pause reserve`: never heard, at any level; or `track reserve -60 dB`";
+    for (from, to, what, allowed) in [
+        ("at tick 18 of", "at beat 18 of", "48:4: `beat` is no time", "or `tick 12 of pendulum`"),
+        ("\nat 0 s      pause reserve", "\nmute reserve", "39:1: `mute` begins no line", silenced),
+        ("track reserve 0 dB", "track reserve 0 dB muted", "34:20: `muted` is no word", silenced),
+        ("track reserve 0 dB", "track reserve muted", "34:15: `muted` is no word", silenced),
+        ("pause reserve", "mute reserve", "39:13: `mute` is no order", "`pause reserve`, `resume"),
+        (
+            "listener at 0 1.6 0",
+            "listener at 0 1.6 0\nplace organ at 1 0 0 near 1 far 9",
+            "38:7: `organ` is a track's name",
+            "`place on organ at X Y Z near METRES far METRES`",
+        ),
+        (
+            "listener at 0 1.6 0",
+            "listener at 0 1.6 0\nplace at 1 0 0 near 1 far 9",
+            "38:1: `place` stands below no track",
+            "or `place on TRACK at X Y Z near METRES far METRES`",
+        ),
+    ] {
+        let (code, said) = checked(&folder, &[(from, to)]);
+        assert!(code == 1 && said.starts_with(&format!("evening.show:{what}")), "{said}");
+        assert!(said.contains(allowed), "{said}");
+    }
+    // They are still names.
+    warned(
+        &folder,
+        &[
+            ("track reserve", "track off"),
+            ("pause reserve", "pause off"),
+            ("silent reserve", "silent off"),
+        ],
+        "",
+    );
+}

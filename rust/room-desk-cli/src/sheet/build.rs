@@ -24,6 +24,13 @@ const RATE: &str = "frames a second, a whole number, as `rate 48000`";
 
 const SETTINGS: [&str; 6] = ["rate", "speakers", "buffer", "block", "length", "main"];
 
+/// A line at the margin that has ended tracks: its first word, and they, the innermost first.
+pub struct Ended {
+    pub line: usize,
+    pub first: Word,
+    pub tracks: Vec<(usize, usize)>,
+}
+
 pub struct Builder<'a> {
     pub scene: Scene,
     pub names: Names,
@@ -32,11 +39,11 @@ pub struct Builder<'a> {
     pub recordings: Both,
     /// Lines of the sheet, by table.
     origins: [Vec<usize>; 9],
-    silent: Vec<(usize, String)>,
+    silent: Vec<(Words, Word)>,
     /// Tracks that the next line may stand below: indent and line.
     pub open: Vec<(usize, usize)>,
-    /// The line at the margin that ended the last of them.
-    pub ended: Option<usize>,
+    /// The line at the margin that ended them.
+    pub ended: Option<Ended>,
     /// The least indent of the sheet.
     pub margin: usize,
     /// The number of the `rate` line, with its line.
@@ -141,15 +148,23 @@ impl Builder<'_> {
         if words.is_empty() {
             return Ok(());
         }
-        while self.open.pop_if(|open| open.0 >= words.indent).is_some() {
-            self.ended = self.open.is_empty().then_some(words.line);
+        let mut tracks = vec![];
+        while let Some(open) = self.open.pop_if(|open| open.0 >= words.indent) {
+            tracks.push(open);
         }
         let owner = self.open.last().map_or(0, |open| open.1);
         let first = words.next("a word that begins a line")?;
+        if !tracks.is_empty() {
+            let ended = Ended { line: words.line, first: first.clone(), tracks };
+            self.ended = self.open.is_empty().then_some(ended);
+        }
         if !LINES.contains(&first.text.as_str()) {
             let timed = first.text.starts_with(|c: char| c.is_ascii_digit());
             let guess = meant(if timed { "at" } else { &first.text }, LINES.into_iter());
-            let allowed = format!("{}{guess}", LINES.join(", "));
+            let allowed = match names::SILENCING.contains(&first.text.as_str()) {
+                true => names::silenced(words.peek().unwrap_or("TRACK")),
+                false => format!("{}{guess}", LINES.join(", ")),
+            };
             return Err(words.wrong(&first, "begins no line of a sheet", allowed).into());
         }
         let inside = ["track", "play", "to", "place"].contains(&first.text.as_str());
@@ -178,7 +193,7 @@ impl Builder<'_> {
             "play" => self.play(&mut words, owner)?,
             "silent" => {
                 let name = words.next("the name of a track")?;
-                self.silent.push((words.line, name.text));
+                self.silent.push((words.clone(), name));
             }
             _ => {
                 self.orders.push(words);
@@ -199,6 +214,11 @@ impl Builder<'_> {
         }
         self.settings.push(first.text.clone());
         Ok(())
+    }
+
+    /// The sheet's line that has made a line of a table, which counts from 0 here.
+    pub fn origin(&self, kind: Kind, at: usize) -> usize {
+        self.origins[kind as usize][at]
     }
 
     /// Adds a line to a table's origins.
@@ -225,19 +245,18 @@ impl Builder<'_> {
         for (at, order) in self.scene.orders.iter_mut().enumerate() {
             order.line = from + at - count;
         }
-        for (line, name) in &self.silent {
-            if !self.names.tracks.contains(name) {
-                let known = names::known(name, self.names.tracks.iter(), "track");
-                let what = format!("`{name}` is no track here");
-                return Err(Finding::of_line(*line, what, known).into());
+        for (words, name) in &self.silent {
+            if !self.names.tracks.contains(&name.text) {
+                return Err(self.no_track(words, name).into());
             }
         }
+        let silent = std::mem::take(&mut self.silent).into_iter();
         Ok(Made {
             scene: self.scene,
             recordings: self.recordings,
             names: self.names,
             lines,
-            silent: self.silent,
+            silent: silent.map(|(words, name)| (words.line, name.text)).collect(),
             notes: self.notes,
         })
     }

@@ -1,6 +1,7 @@
 //! `at` lines: when, what, and how long it takes.
 
 use super::build::Builder;
+use super::names::SILENCING;
 use super::values::{decimal, frames, level, millis, whole};
 use super::words::Words;
 use crate::scene::model::{PAUSE, RESUME};
@@ -40,7 +41,12 @@ fn block(builder: &mut Builder, words: &mut Words) -> Result<i64, Finding> {
         return whole(words, "a block, counted from 0");
     }
     let grid = builder.grid();
-    let wanted = frames(words, grid)?;
+    let clock = builder.names.clocks.first().map_or("CLOCK", String::as_str);
+    let or_tick = |finding: Finding| {
+        let allowed = format!("{}, or `tick 12 of {clock}`", finding.allowed);
+        Finding { allowed, ..finding }
+    };
+    let wanted = frames(words, grid).map_err(or_tick)?;
     let block = (wanted + grid.block / 2) / grid.block;
     let of = |frames: i64| frames as f64 / grid.rate as f64;
     let landed = of(block * grid.block);
@@ -91,6 +97,11 @@ fn what(builder: &Builder, words: &mut Words, order: &mut Order) -> Result<(), F
             order.volume = level(words)?;
             Ok(())
         }
+        verb if SILENCING.contains(&verb) => {
+            let name = words.peek().unwrap_or("TRACK");
+            let allowed = format!("`pause {name}`, `resume {name}` or `set {name} to -60 dB`");
+            Err(words.wrong(&word, "is no order", allowed))
+        }
         _ => Err(words.wrong(&word, "is no order", WHAT)),
     }
 }
@@ -121,6 +132,9 @@ fn target(builder: &Builder, words: &mut Words, order: &mut Order) -> Result<(),
     let mut all = builder.names.tracks.iter().chain(&builder.names.sends);
     if !all.any(|known| *known == name) {
         let word = words.next("the name of a track or a send track")?;
+        if let Some(finding) = builder.as_recording(words, &word) {
+            return Err(finding);
+        }
         let all = builder.names.tracks.iter().chain(&builder.names.sends);
         let known = super::names::known(&name, all, "track or send track");
         return Err(words.wrong(&word, "is no track and no send track here", known));

@@ -1,11 +1,16 @@
 //! A refused sheet in its own words: names, seconds and decibels for lines, blocks and thousandths.
 
+use std::ops::Range;
+
+use super::words::{Word, Words};
 use crate::input::Input;
 use crate::scene::model::PAUSE;
 use crate::scene::tables::{Kind, Rule, Table};
 use crate::scene::{Finding, Scene, commas, count};
-use crate::units::{PER, decibels, millis, seconds, thousandths};
+use crate::units::{PER, decibels, millis, parse_thousandths, seconds, thousandths};
 
+const UNITS: [&str; 11] =
+    ["dB", "db", "DB", "s", "ms", "min", "m", "frame", "frames", "block", "blocks"];
 const DEEPEST: &str = "four deep at most; `play ... at` makes a track of its own";
 
 /// What is wrong, and what is allowed.
@@ -25,10 +30,17 @@ pub fn reworded(input: &Input, scene: &Scene, number: u32, finding: &Finding) ->
         _ => None,
     };
     let line = if kind == Kind::Show { field.setting().or(line) } else { line };
+    let span = line.filter(|_| number == 4).and_then(|line| field.span(line));
     match said {
-        Some((what, allowed)) => Finding { line, what, allowed, ..own },
+        Some((what, allowed)) => Finding { line, span, what, allowed, ..own },
         None => own,
     }
+}
+
+/// The last word that has a level, or is followed by its unit, and that says it.
+fn level_of(words: &[&Word], says: impl Fn(&Word) -> bool) -> Option<usize> {
+    let unit = |at: usize| words.get(at).is_some_and(|w| w.text.to_lowercase().ends_with("db"));
+    (0..words.len()).rev().find(|&at| says(words[at]) && (unit(at) || unit(at + 1)))
 }
 
 /// A number of the scene, by its place.
@@ -70,6 +82,37 @@ impl Field<'_> {
         Some(sheet.lines().position(|line| first(line).as_deref() == Some(word))? + 1)
     }
 
+    /// The words of the sheet's line that say the field, where they can be told.
+    fn span(&self, line: usize) -> Option<Range<usize>> {
+        let text = self.input.sheet.as_ref()?.0.lines().nth(line - 1)?;
+        let line = Words::of(line, text).ok()?;
+        let words: Vec<&Word> = line.all().collect();
+        let behind = |names: &[&str]| {
+            words.iter().rposition(|word| names.contains(&word.text.as_str())).map(|at| at + 1)
+        };
+        let at = match (self.kind, self.name()) {
+            (Kind::Show, _) => Some(1),
+            (Kind::Orders, "block") => Some(1),
+            (Kind::Orders, "millis") => behind(&["over"]),
+            (Kind::Orders, "when") => behind(&["wait", "tick"]),
+            (Kind::Orders, "power") => behind(&["in", "out", "in-out"]),
+            (_, "near") => behind(&["near"]),
+            (_, "far") => behind(&["far"]),
+            (_, "volume") => level_of(&words, |word| self.says(word)),
+            _ => words.iter().position(|word| self.says(word)),
+        };
+        let first = words.get(at?)?;
+        let unit = |word: &&&Word| UNITS.contains(&word.text.as_str()) || first.text == "block";
+        let last = words.get(at? + 1).filter(unit).unwrap_or(first);
+        Some(first.span.start..last.span.end)
+    }
+
+    /// A word has the field's number, in thousandths.
+    fn says(&self, word: &Word) -> bool {
+        let number = word.text.trim_end_matches(['d', 'D', 'b', 'B']);
+        parse_thousandths(number) == Some(self.value())
+    }
+
     fn count(&self) -> Option<Said> {
         let table = Table::of(self.kind);
         let own = match self.kind {
@@ -85,7 +128,7 @@ impl Field<'_> {
         let plain = || (format!("{} is {number}", self.name()), self.between(|n| n.to_string()));
         Some(match (self.kind, self.name()) {
             (_, "volume") => {
-                (format!("{} {}", self.thing(), decibels(number)), self.between(decibels))
+                (format!("{} {}", self.thing(), decibels(number)), self.levels(number))
             }
             (Kind::Show, "blocks") => self.length(),
             (Kind::Show, "channels") => {
@@ -99,6 +142,15 @@ impl Field<'_> {
             (Kind::Orders, "when" | "millis") => self.wait(),
             _ => return None,
         })
+    }
+
+    /// The range of levels; above it a minus was lost.
+    fn levels(&self, number: i64) -> String {
+        let range = self.between(decibels);
+        match number {
+            1..=96_000 => format!("{range} (did you mean `{}`?)", decibels(-number)),
+            _ => range,
+        }
     }
 
     /// What has a level.

@@ -1,9 +1,10 @@
 //! Lines that make tracks, send tracks, clocks, routes and places.
 
-use super::build::Builder;
-use super::names;
+use super::build::{Builder, Ended};
+use super::names::{self, SILENCING};
 use super::values::{decimal, level_or_zero};
 use super::words::{Word, Words};
+use crate::recordings::stem;
 use crate::scene::tables::{FORMAT, Format, Kind};
 use crate::scene::{Clock, Finding, Placing, Route, Track};
 
@@ -64,7 +65,9 @@ impl Builder<'_> {
 
     pub fn track(&mut self, words: &mut Words, word: &Word, owner: usize) -> Result<(), Finding> {
         let name = self.new_name(words)?;
+        Self::no_silencing(words, &name)?;
         let volume = level_or_zero(words)?;
+        Self::no_silencing(words, &name)?;
         let parent = if words.take("in") { self.track_named(words)? } else { owner };
         // Right under the mixer it would be heard past the track that it was written below.
         if parent == 0 && words.indent > self.margin {
@@ -77,11 +80,71 @@ impl Builder<'_> {
         Ok(())
     }
 
+    /// `track donor 0 dB muted`
+    fn no_silencing(words: &mut Words, name: &str) -> Result<(), Finding> {
+        if !words.peek().is_some_and(|word| SILENCING.contains(&word)) {
+            return Ok(());
+        }
+        let word = words.next("")?;
+        Err(words.wrong(&word, "is no word of a track", names::silenced(name)))
+    }
+
     pub fn track_named(&self, words: &mut Words) -> Result<usize, Finding> {
         let word = words.next("the name of a track")?;
         let found = self.names.tracks.iter().position(|name| *name == word.text);
+        found.map(|at| at + 1).ok_or_else(|| self.no_track(words, &word))
+    }
+
+    /// A name of no track; perhaps that of a recording, whose tracks are told then.
+    pub fn no_track(&self, words: &Words, word: &Word) -> Finding {
         let known = || names::known(&word.text, self.names.tracks.iter(), "track");
-        found.map(|at| at + 1).ok_or_else(|| words.wrong(&word, "is no track here", known()))
+        let found = self.as_recording(words, word);
+        found.unwrap_or_else(|| words.wrong(word, "is no track here", known()))
+    }
+
+    /// The name of a recording, with or without its ending, where a track was wanted.
+    pub fn as_recording(&self, words: &Words, word: &Word) -> Option<Finding> {
+        let meant = |file: &str| [file, stem(file)].contains(&word.text.as_str());
+        let mut played: Vec<(String, usize, usize)> = vec![];
+        for (at, sound) in self.scene.sounds.iter().enumerate() {
+            let part = self.recordings.of(sound.from).part(sound.first, sound.count);
+            let file = part.map(|part| part.file.clone()).filter(|file| meant(file));
+            let track = self.written_below(at);
+            if let Some(file) = file.filter(|_| track > 0 && played.iter().all(|p| p.2 != track)) {
+                played.push((file, self.origin(Kind::Sounds, at), track));
+            }
+        }
+        let (file, ..) = played.first()?;
+        let name = |track: &usize| self.names.tracks[track - 1].clone();
+        let places =
+            played.iter().map(|(_, line, track)| format!("line {line} in {}", name(track)));
+        let places = places.collect::<Vec<_>>().join(", ");
+        let allowed = match &played[..] {
+            [(.., only)] => {
+                let around = self.scene.path(*only).iter().skip(1).map(name).collect::<Vec<_>>();
+                let around = match around.is_empty() {
+                    true => String::new(),
+                    false => format!(", or around it {}", around.join(" or ")),
+                };
+                format!("the track {}{around}", name(only))
+            }
+            _ => {
+                let tracks = played.iter().map(|(.., track)| name(track)).collect::<Vec<_>>();
+                format!("one of the tracks {}", tracks.join(", "))
+            }
+        };
+        let why = format!("is no track here: {file} is a recording, played by {places}");
+        Some(words.wrong(word, &why, allowed))
+    }
+
+    /// The track that a sound's line stands below: `play ... at` has made one of its own.
+    fn written_below(&self, sound: usize) -> usize {
+        let track = self.scene.sounds[sound].track;
+        let line = self.origin(Kind::Sounds, sound);
+        match track.checked_sub(1) {
+            Some(at) if self.origin(Kind::Tracks, at) == line => self.scene.tracks[at].parent,
+            _ => track,
+        }
     }
 
     pub fn send_named(&self, words: &mut Words) -> Result<usize, Finding> {
@@ -91,12 +154,26 @@ impl Builder<'_> {
         found.map(|at| at + 1).ok_or_else(|| words.wrong(&word, "is no send track here", known()))
     }
 
+    /// What is indented below no track is told by the line at the margin that ended the one above.
     pub fn below_nothing(&self, words: &Words, word: &Word) -> Finding {
-        let ended = match self.ended.filter(|_| words.indent > self.margin) {
-            Some(line) => format!("; line {line}, at the margin, has ended the one above"),
-            None => String::new(),
+        let outer =
+            |ended: &&Ended| ended.tracks.iter().find(|open| open.0 < words.indent).copied();
+        let ended = self.ended.as_ref().filter(|_| words.indent > self.margin);
+        let Some((ended, (_, track))) = ended.and_then(|ended| Some((ended, outer(&ended)?)))
+        else {
+            return words.wrong(word, "stands below no track", "indented below a track");
         };
-        words.wrong(word, "stands below no track", format!("indented below a track{ended}"))
+        let (name, line) = (self.names.track(track), words.line);
+        let first = ended.first.text.as_str();
+        let what = format!(
+            "`{first}`, at the margin, ends the track {name}: `{}` in line {line} stands below no track",
+            words.first()
+        );
+        let allowed = match ["play", "to", "place"].contains(&first) {
+            true => format!("this line indented below {name}, as line {line} is"),
+            false => format!("this line behind the tracks; line {line} then stands below {name}"),
+        };
+        Finding::at(ended.line, ended.first.span.clone(), what, allowed)
     }
 
     pub fn to(&mut self, words: &mut Words, word: &Word, owner: usize) -> Result<(), Finding> {
@@ -149,8 +226,17 @@ impl Builder<'_> {
     pub fn place(&mut self, words: &mut Words, word: &Word, owner: usize) -> Result<(), Finding> {
         Self::not_yet(words, word)?;
         let track = if words.take("on") { self.track_named(words)? } else { owner };
+        let track_named = |name: &&str| self.names.tracks.iter().any(|track| track == name);
+        let named = words.peek().filter(|name| *name != "at").filter(track_named);
+        if let Some(name) = named.map(String::from) {
+            let word = words.next("")?;
+            let on = format!("`place on {name} at X Y Z near METRES far METRES`");
+            return Err(words.wrong(&word, "is a track's name", on));
+        }
         if track == 0 {
-            return Err(self.below_nothing(words, word));
+            let mut finding = self.below_nothing(words, word);
+            finding.allowed += ", or `place on TRACK at X Y Z near METRES far METRES`";
+            return Err(finding);
         }
         let place = Self::point(words)?;
         words.expect("near", "`near METRES far METRES`")?;
