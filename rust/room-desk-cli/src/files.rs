@@ -55,6 +55,13 @@ pub fn tell(text: &str) {
     let _ = io::stderr().lock().write_all(text.as_bytes());
 }
 
+/// What was written, on standard error; nothing of standard output.
+pub fn tell_of(output: &str, what: &str) {
+    if output != "-" {
+        tell(&format!("{output}: {what}\n"));
+    }
+}
+
 fn print(bytes: &[u8]) -> io::Result<()> {
     let mut out = io::stdout().lock();
     match out.write_all(bytes).and_then(|()| out.flush()) {

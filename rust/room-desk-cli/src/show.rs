@@ -2,7 +2,7 @@
 
 use crate::input::{Input, Names};
 use crate::scene::model::{Order, PAUSE, Scene};
-use crate::scene::{commas, count};
+use crate::scene::{Route, commas, count};
 use crate::silence::Answer;
 use crate::units::{about, curve, decibels, millis, seconds, thousandths};
 use crate::warnings::target;
@@ -98,14 +98,16 @@ impl View<'_> {
         if let Some(reason) = self.silence.reason(line, self.scene, self.names) {
             return format!("cannot be heard: {reason}");
         }
-        let leaks = self.scene.leaks(line);
-        let ways = leaks.iter().map(|route| {
+        self.not_silent(&self.scene.leaks(line)).unwrap_or_else(|| self.place(line))
+    }
+
+    /// What is heard though a track above it is turned down.
+    fn not_silent(&self, routes: &[&Route]) -> Option<String> {
+        let ways = routes.iter().map(|route| {
             format!("{} through {}", self.names.track(route.track), self.names.send(route.send))
         });
-        match leaks.len() {
-            0 => self.place(line),
-            _ => format!("NOT silent: {} is heard", ways.collect::<Vec<_>>().join(", ")),
-        }
+        let ways = ways.collect::<Vec<_>>().join(", ");
+        (!ways.is_empty()).then(|| format!("NOT silent: {ways} is heard"))
     }
 
     fn place(&self, line: usize) -> String {
@@ -143,8 +145,27 @@ impl View<'_> {
 
     fn orders(&self) -> Vec<Row> {
         let mut list: Vec<(usize, &Order)> = self.scene.orders.iter().enumerate().collect();
-        list.sort_by_key(|(_, order)| order.block);
-        list.into_iter().map(|(at, order)| self.order(at, order)).collect()
+        list.sort_by(|(_, a), (_, b)| self.begins(a).total_cmp(&self.begins(b)));
+        let row = |(at, order)| self.played(order).unwrap_or_else(|| self.order(at, order));
+        list.into_iter().map(row).collect()
+    }
+
+    /// When an order begins; when it is read where it never does.
+    fn begins(&self, order: &Order) -> f64 {
+        self.scene.begins_at(order).unwrap_or(self.scene.read_at(order))
+    }
+
+    /// `play ... at` of a sheet, as it is written there.
+    fn played(&self, order: &Order) -> Option<Row> {
+        let mut sounds = self.scene.sounds.iter().filter(|_| self.input.plays(order.line));
+        let sound = sounds.find(|sound| sound.track == order.index)?;
+        let part = self.input.recordings.of(sound.from).part(sound.first, sound.count);
+        let file = part.map_or("its recording", |part| &part.file);
+        let below = match self.scene.tracks[order.index - 1].parent {
+            0 => String::new(),
+            parent => format!("in {}", self.names.track(parent)),
+        };
+        Some(vec![seconds(self.begins(order)), String::new(), format!("play {file}"), below])
     }
 
     fn order(&self, at: usize, order: &Order) -> Row {
@@ -157,15 +178,20 @@ impl View<'_> {
             0 => "at once".into(),
             long => format!("over {}, {}", millis(long), curve(order.easing, order.power)),
         };
-        let lost = if self.scene.overridden(at) { "a later line takes its place" } else { "" };
+        let routes: Vec<&Route> =
+            self.scene.still_sent(order).into_iter().map(|(_, route)| route).collect();
+        let lost = match self.scene.overridden(at) {
+            true => "a later line takes its place".into(),
+            false => self.not_silent(&routes).unwrap_or_default(),
+        };
         vec![
-            seconds(self.scene.read_at(order)),
+            seconds(self.begins(order)),
             format!("block {}", order.block),
             target(order, self.scene, self.names),
             to,
             over,
             waits(order, self.names),
-            lost.into(),
+            lost,
         ]
     }
 }

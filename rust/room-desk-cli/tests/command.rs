@@ -229,7 +229,7 @@ fn wrong_recordings_are_answered_with_what_mends_them() {
         ("song.flac", ["refused 13", "it is a FLAC file"]),
     ] {
         let output = run_in(&folder, &["check", &scene, file]);
-        let said = text(&output.stderr);
+        let said = text(&output.stdout);
         assert!(status(&output) == 1 && parts.iter().all(|part| said.contains(part)), "{said}");
     }
     let first = root().join("examples/first/samples.raw").display().to_string();

@@ -430,3 +430,81 @@ fn words_that_are_tried() {
         "",
     );
 }
+
+/// What `check` says of a show goes where its verdict goes; trouble with files does not.
+#[test]
+fn one_stream() {
+    let folder = evening("trial-streams");
+    for (from, to, expected) in [
+        ("rate 8000\n", "", 1),
+        ("pause window", "pause steps", 1),
+        ("from 3 s for 4 s", "from 4 s for 4 s", 1),
+        ("to -20 dB over 800", "to 20 dB over 800", 1),
+        ("pause reserve", "pause reserve over 1 s", 1),
+        ("60 per minute", "every 60 s", 0),
+    ] {
+        fs::write(folder.join("x.show"), EVENING.replacen(from, to, 1)).unwrap();
+        let output = run_in(&folder, &["check", "x.show"]);
+        let said = text(&output.stdout);
+        assert!(status(&output) == expected && said.contains("x.show:"), "{to}: {said}");
+        assert!(output.stderr.is_empty(), "{to}: {}", text(&output.stderr));
+    }
+    fs::write(folder.join("x.show"), EVENING.replacen("rain.wav", "rian.wav", 1)).unwrap();
+    let output = run_in(&folder, &["check", "x.show"]);
+    assert!(status(&output) == 3 && output.stdout.is_empty());
+    assert!(text(&output.stderr).contains("did you mean `rain.wav`?"));
+    // A sheet that is not understood has no number.
+    fs::write(folder.join("x.show"), EVENING.replacen("pause window", "pause steps", 1)).unwrap();
+    let output = run_in(&folder, &["check", "-q", "x.show"]);
+    assert!(status(&output) == 1 && output.stdout.is_empty() && !output.stderr.is_empty());
+}
+
+/// `show` lists what is played later at the second that the sheet names.
+#[test]
+fn shows_are_listed_by_time() {
+    let folder = evening("trial-show");
+    let sheet =
+        EVENING.replacen("at 11 s     set organ -> chapel", "at 11 s set workshop to -60 dB #", 1);
+    fs::write(folder.join("x.show"), sheet).unwrap();
+    let said = text(&run_in(&folder, &["show", "x.show"]).stdout);
+    let orders = said.split_once("Orders, by time\n").unwrap().1;
+    let words = |line: &str| line.split_whitespace().collect::<Vec<_>>().join(" ");
+    let orders: Vec<String> = orders.lines().map(words).collect();
+    assert!(orders.is_sorted_by_key(|line| {
+        (line.split_once(' ').unwrap().0.parse::<f64>().unwrap() * 1000.0) as i64
+    }));
+    for line in [
+        "6.000 s play letter.wav in apprentice",
+        "10.000 s play clockwork.wav in bench",
+        "12.000 s play rain.wav in workshop",
+        "18.000 s block 719 track volume of workshop to -16 dB over 2 s, linear waits for tick 18 of \
+         pendulum",
+        "11.000 s block 440 track volume of workshop to -60 dB at once NOT silent: bench through chapel \
+         is heard",
+    ] {
+        assert!(orders.iter().any(|order| order == line), "{line}: {said}");
+    }
+    assert!(said.contains("pendulum  60 per minute  runs"), "{said}");
+}
+
+/// `new` shows how a track is never heard, and says what it wrote; so does `picture`.
+#[test]
+fn a_new_sheet_shows_how() {
+    let folder = folder("trial-new");
+    let output = run_in(&folder, &["new", "-o", "x.show"]);
+    assert!(text(&output.stderr).starts_with("x.show: a sheet to start from"));
+    let sheet = fs::read_to_string(folder.join("x.show")).unwrap();
+    for part in ["# held: never heard, at any level", "-60 dB", "silent ", "tick 0 is at 0 s"] {
+        assert!(sheet.contains(part), "{part}");
+    }
+    assert!(
+        ["in-out 2", "`in 2`", "`out 2`", "`linear`"].iter().all(|curve| sheet.contains(curve))
+    );
+    let output = run_in(&folder, &["check", "x.show"]);
+    let said = text(&output.stdout);
+    assert!(status(&output) == 0 && said.contains("silent: spare, held"), "{said}");
+    assert!(said.contains("silent: donor, muted"), "{said}");
+    let output = run_in(&folder, &["picture", "x.show", "-o", "x.svg"]);
+    assert_eq!(text(&output.stderr), "x.svg: a picture of x.show, for any browser\n");
+    assert!(run_in(&folder, &["new"]).stderr.is_empty());
+}

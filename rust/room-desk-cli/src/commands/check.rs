@@ -17,7 +17,14 @@ use crate::warnings;
 
 pub fn run(args: &Args) -> Done {
     let paint = Paint::of(args, io::stdout())?;
-    let input = Input::load(args)?;
+    let input = match Input::load(args) {
+        // What is said of the show goes where its verdict goes; without a number `-q` has none.
+        Err(Stop::Refused(text)) if !args.has("--quiet") => {
+            files::write("-", text.as_bytes())?;
+            return Err(Stop::Refused(String::new()));
+        }
+        input => input?,
+    };
     match input.ask() {
         Ok(shape) => accepted(args, &input, &shape, paint),
         Err(trouble) => {

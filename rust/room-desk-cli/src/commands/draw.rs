@@ -25,5 +25,7 @@ pub fn run(args: &Args) -> Done {
     files::not_to_terminal(output, "a picture", &named.display().to_string())?;
     let (_, scene) = input.accepted(paint)?;
     let drawn = picture::svg(&input, &scene, &silence::ask(&input))?;
-    files::write(output, drawn.as_bytes())
+    files::write(output, drawn.as_bytes())?;
+    files::tell_of(output, &format!("a picture of {}, for any browser", input.name));
+    Ok(())
 }

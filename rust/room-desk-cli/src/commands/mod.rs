@@ -81,5 +81,8 @@ fn new(args: &Args) -> Done {
     if output != "-" && !path.exists() && path.extension() != Some(OsStr::new("show")) {
         return Err(Stop::Usage(format!("{output}: the name of a sheet ends with .show")));
     }
-    files::write(output, sheet::TEMPLATE.as_bytes())
+    files::write(output, sheet::TEMPLATE.as_bytes())?;
+    let next = "a sheet to start from; `room-desk check` says whether it is accepted";
+    files::tell_of(output, next);
+    Ok(())
 }
