@@ -145,14 +145,9 @@ impl View<'_> {
 
     fn orders(&self) -> Vec<Row> {
         let mut list: Vec<(usize, &Order)> = self.scene.orders.iter().enumerate().collect();
-        list.sort_by(|(_, a), (_, b)| self.begins(a).total_cmp(&self.begins(b)));
+        list.sort_by(|(_, a), (_, b)| self.scene.starts(a).total_cmp(&self.scene.starts(b)));
         let row = |(at, order)| self.played(order).unwrap_or_else(|| self.order(at, order));
         list.into_iter().map(row).collect()
-    }
-
-    /// When an order begins; when it is read where it never does.
-    fn begins(&self, order: &Order) -> f64 {
-        self.scene.begins_at(order).unwrap_or(self.scene.read_at(order))
     }
 
     /// `play ... at` of a sheet, as it is written there.
@@ -165,7 +160,7 @@ impl View<'_> {
             0 => String::new(),
             parent => format!("in {}", self.names.track(parent)),
         };
-        Some(vec![seconds(self.begins(order)), String::new(), format!("play {file}"), below])
+        Some(vec![seconds(self.scene.starts(order)), String::new(), format!("play {file}"), below])
     }
 
     fn order(&self, at: usize, order: &Order) -> Row {
@@ -185,7 +180,7 @@ impl View<'_> {
             false => self.not_silent(&routes).unwrap_or_default(),
         };
         vec![
-            seconds(self.begins(order)),
+            seconds(self.scene.starts(order)),
             format!("block {}", order.block),
             target(order, self.scene, self.names),
             to,

@@ -113,6 +113,12 @@ impl Seen<'_> {
         let states = self.scene.orders.iter().filter(|o| o.kind >= PAUSE && o.index == self.outer);
         // `play ... at` resumes the track that it makes.
         let states: Vec<&Order> = states.filter(|o| !self.input.plays(o.line)).collect();
+        // A track around it that is paused for a while was not meant to hold it.
+        let held = states.iter().any(|o| o.kind == PAUSE && o.block == 0)
+            || states.iter().all(|o| o.kind == PAUSE);
+        if self.outer != self.track && !held {
+            return None;
+        }
         let name = self.input.names.track(self.outer);
         let hold = format!("`at 0 s pause {name}`");
         let mut why: Vec<String> = states.iter().filter_map(|o| self.breaks(o)).collect();
@@ -133,7 +139,7 @@ impl Seen<'_> {
     /// What an order does other than pausing at once before the first block.
     fn breaks(&self, order: &Order) -> Option<String> {
         let (line, it) = (self.line(order), self.it());
-        let at = seconds(self.scene.read_at(order));
+        let at = seconds(self.scene.starts(order));
         match order.kind {
             RESUME if self.outer != self.track => {
                 Some(format!("{it} is resumed by {line} at {at}"))

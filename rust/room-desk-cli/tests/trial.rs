@@ -281,6 +281,13 @@ fn orders_that_do_nothing() {
         &[("at 0 s      pause organ\n", "")],
         "evening.show:40: organ is not paused then",
     );
+    warned(
+        &folder,
+        &[("play rain.wav at 12 s", "play rain.wav at 120 s")],
+        "evening.show:13: what this line asks for comes at 120.000 s, after the show's end at 24.000 s: \
+         this line is never carried out",
+    );
+    warned(&folder, &[("play rain.wav at 12 s", "play rain.wav at 0 s")], "");
     // Paused and never resumed is no mistake.
     warned(&folder, &[("at 15 s     resume window over 400 ms", "")], "");
 }
@@ -321,6 +328,9 @@ fn a_broken_hold_names_its_line() {
         let parts = ["reading is not proved silent, ", why, "    allowed: ", allowed];
         assert!(code == 1 && parts.iter().all(|part| said.contains(part)), "{said}");
     }
+    // A pause for a while around it was not meant to hold it.
+    let (_, said) = checked(&folder, &[asked, ("silent reading", "silent street")]);
+    assert!(said.contains("street is not proved silent, since it is at 0 dB\n"), "{said}");
 }
 
 /// Sheet 01: the line that ends the track is told, not the one behind it.

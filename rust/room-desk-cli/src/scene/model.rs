@@ -227,6 +227,11 @@ impl Scene {
         (clock.ticking == 1).then(|| (tick / clock.ticks_per_second()).max(read))
     }
 
+    /// When an order's change begins, about; when it is read where it never does.
+    pub fn starts(&self, order: &Order) -> f64 {
+        self.begins_at(order).unwrap_or(self.read_at(order))
+    }
+
     /// A later line of the same block takes this order's place.
     pub fn overridden(&self, at: usize) -> bool {
         self.orders[at + 1..].iter().any(|later| later.same_target(&self.orders[at]))

@@ -73,7 +73,7 @@ impl Asked<'_> {
     /// A resume of a track that plays; one that waits stops its track itself.
     fn not_paused(&self) -> Option<String> {
         let (scene, order) = (self.scene, self.order);
-        if order.kind != RESUME || order.waits() {
+        if order.kind != RESUME || order.waits() || self.input.plays(order.line) {
             return None;
         }
         let before = |o: &&Order| o.index == order.index && self.before(o);

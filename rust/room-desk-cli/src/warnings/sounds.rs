@@ -97,7 +97,7 @@ impl Sounds<'_> {
             None => format!("begins later than at {asked_for}"),
         };
         let line = input.line(pause.line).map_or("an order".into(), |line| format!("line {line}"));
-        let (name, at) = (input.names.track(pause.index), seconds(scene.read_at(pause)));
+        let (name, at) = (input.names.track(pause.index), seconds(scene.starts(pause)));
         Some(format!(
             "{when}: {line} pauses {name} at {at}, and what waits there stands still; in a track that \
              is not paused it begins at {asked_for}"
