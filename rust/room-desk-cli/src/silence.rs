@@ -83,16 +83,18 @@ pub fn against(track: usize, input: &Input, scene: &Scene) -> Against {
     });
     tried.unwrap_or_else(|| Against {
         why: format!(", since it is at {}", decibels(scene.tracks[track - 1].volume)),
-        allowed: either(&input.names.track(track)),
+        allowed: nothing_tried(&input.names.track(track)),
     })
 }
 
-/// What makes a track silent.
-pub fn either(name: &str) -> String {
-    format!(
-        "`at 0 s pause {name}` and no other pause or resume of it; or {name} at -60 dB or less all \
-         through and no track below it routed"
-    )
+/// What makes a track silent for which nothing was tried.
+fn nothing_tried(name: &str) -> String {
+    let muted = "at -60 dB or less all through and no track below it routed";
+    format!("{}; or {name} {muted}", held(name))
+}
+
+fn held(name: &str) -> String {
+    format!("`at 0 s pause {name}` and no other pause or resume of it")
 }
 
 /// A track that should be silent, and itself or one around it that would make it so.
@@ -168,8 +170,12 @@ impl Seen<'_> {
             let below = names.track(route.track);
             format!("{below} below {} goes to {}", self.it(), names.send(route.send))
         });
-        let why = loud.chain(routed).collect();
-        self.since(why, either(&names.track(self.outer)))
+        let name = names.track(self.outer);
+        let (loud, routed): (Vec<String>, Vec<String>) = (loud.collect(), routed.collect());
+        let level = (!loud.is_empty()).then(|| format!("no level of {name} above -60 dB"));
+        let route = (!routed.is_empty()).then(|| format!("no route of a track below {name}"));
+        let muted = level.into_iter().chain(route).collect::<Vec<_>>().join(" and ");
+        self.since([loud, routed].concat(), format!("{muted}; or {}", held(&name)))
     }
 
     fn it(&self) -> String {

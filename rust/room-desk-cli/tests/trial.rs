@@ -5,7 +5,7 @@ mod common;
 use std::fs;
 use std::path::{Path, PathBuf};
 
-use common::{folder, run_in, status, text};
+use common::{folder, root, run_in, status, text};
 use room_desk::wave::{self, Bits};
 
 /// The evening round, as it should be.
@@ -517,4 +517,30 @@ fn a_new_sheet_shows_how() {
     let output = run_in(&folder, &["picture", "x.show", "-o", "x.svg"]);
     assert_eq!(text(&output.stderr), "x.svg: a picture of x.show, for any browser\n");
     assert!(run_in(&folder, &["new"]).stderr.is_empty());
+}
+
+/// What docs/USING.md shows as the command's answers is what it answers.
+#[test]
+fn the_page_shows_what_is_said() {
+    let page = fs::read_to_string(root().join("docs/USING.md")).unwrap();
+    let night = fs::read_to_string(root().join("examples/night/night.show")).unwrap();
+    let folder = folder("trial-page");
+    for entry in fs::read_dir(root().join("examples/night")).unwrap() {
+        let path = entry.unwrap().path();
+        fs::copy(&path, folder.join(path.file_name().unwrap())).unwrap();
+    }
+    for (from, to) in
+        [("at 8.5 s  set", "at 14 s  set"), ("at 6 s    pause guide", "at 6 s set donor to 0 dB")]
+    {
+        assert!(night.contains(from), "{from}");
+        fs::write(folder.join("night.show"), night.replacen(from, to, 1)).unwrap();
+        let said = text(&run_in(&folder, &["check", "night.show"]).stdout);
+        let refusal = said.lines().take_while(|line| !line.starts_with("warning"));
+        let refusal = refusal.filter(|line| !line.starts_with("silent:"));
+        let shown: String = refusal.map(|line| format!("    {line}\n")).collect();
+        assert!(shown.lines().count() > 4 && page.contains(&shown), "{shown}");
+    }
+    let leak = text(&run_in(&root().join("examples/leak"), &["check", "leak.show"]).stdout);
+    let warning = leak.lines().find(|line| line.contains("donor-low below it")).unwrap();
+    assert!(page.contains(&format!("\n    {warning}\n")), "{warning}");
 }

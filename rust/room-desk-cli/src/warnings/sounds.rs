@@ -107,7 +107,10 @@ impl Sounds<'_> {
     /// A part of a recording that a `silent` line keeps from being heard on another track.
     fn kept_silent(&self, sound: &Sound) -> Option<String> {
         let (scene, input) = (self.scene, self.input);
-        if sound.track > 0 && self.silence.proved(sound.track) {
+        // Where its own `silent` line is not proved, that is refused.
+        let asked = |track: &usize| input.silent.iter().any(|s| s.1 == input.names.track(*track));
+        let path = scene.path(sound.track);
+        if path.iter().any(|track| asked(track) || self.silence.proved(*track)) {
             return None;
         }
         let ends = |sound: &Sound| sound.first + sound.count;
