@@ -174,6 +174,11 @@ impl Input {
         }
     }
 
+    /// `line 12`, by a line of the scene file.
+    pub fn line_name(&self, line: usize) -> String {
+        self.line(line).map_or("an order".into(), |line| format!("line {line}"))
+    }
+
     /// The scene as structs, once it is accepted (or refused by 8 or 9 alone).
     pub fn scene(&self) -> Done<Scene> {
         let read = text::read(&self.file).ok().and_then(|rows| Scene::of(&rows));

@@ -74,12 +74,13 @@ pub struct Against {
     pub allowed: String,
 }
 
-/// Looks where silence was tried: at the track, then at those around it, its pauses before its level.
+/// Looks where silence was tried: at the track, then at those around it.
 pub fn against(track: usize, input: &Input, scene: &Scene) -> Against {
     let path = scene.path(track);
     let tried = path.iter().find_map(|&outer| {
         let seen = Seen { input, scene, track, outer };
-        seen.not_held().or_else(|| seen.not_muted())
+        // Of a track at -60 dB pauses matter only where nothing else stands against it.
+        seen.not_muted().or_else(|| seen.not_held())
     });
     tried.unwrap_or_else(|| Against {
         why: format!(", since it is at {}", decibels(scene.tracks[track - 1].volume)),
@@ -106,10 +107,6 @@ struct Seen<'a> {
 }
 
 impl Seen<'_> {
-    fn line(&self, order: &Order) -> String {
-        self.input.line(order.line).map_or("an order".into(), |line| format!("line {line}"))
-    }
-
     /// Why a track that is paused is not held.
     fn not_held(&self) -> Option<Against> {
         let states = self.scene.orders.iter().filter(|o| o.kind >= PAUSE && o.index == self.outer);
@@ -125,7 +122,8 @@ impl Seen<'_> {
         let hold = format!("`at 0 s pause {name}`");
         let mut why: Vec<String> = states.iter().filter_map(|o| self.breaks(o)).collect();
         if why.is_empty() && states.len() > 1 {
-            let lines = states.iter().map(|o| self.line(o)).collect::<Vec<_>>().join(" and ");
+            let lines = states.iter().map(|o| self.input.line_name(o.line)).collect::<Vec<_>>();
+            let lines = lines.join(" and ");
             why.push(format!("{lines} both pause {}", self.it()));
         }
         let allowed = match &states[..] {
@@ -140,7 +138,7 @@ impl Seen<'_> {
 
     /// What an order does other than pausing at once before the first block.
     fn breaks(&self, order: &Order) -> Option<String> {
-        let (line, it) = (self.line(order), self.it());
+        let (line, it) = (self.input.line_name(order.line), self.it());
         let at = seconds(self.scene.starts(order));
         match order.kind {
             RESUME if self.outer != self.track => {
@@ -164,7 +162,8 @@ impl Seen<'_> {
         }
         let loud = scene.orders.iter().filter(|o| o.kind == 1 && o.index == self.outer);
         let loud = loud.filter(|order| order.volume > SILENT).map(|order| {
-            format!("{} sets {} to {}", self.line(order), self.it(), decibels(order.volume))
+            let line = self.input.line_name(order.line);
+            format!("{line} sets {} to {}", self.it(), decibels(order.volume))
         });
         let routed = scene.routes_below(self.outer).map(|(_, route)| {
             let below = names.track(route.track);

@@ -128,7 +128,7 @@ fn rates_come_first() {
         &folder,
         &[("rate 8000\n", "")],
         "evening.show: there is no `rate` line, so the rate is 48000; all recordings have 8000\n    \
-         allowed: the line `rate 8000` at its head\n",
+         allowed: the line `rate 8000`, at the sheet's head\n",
     );
     refused(
         &folder,
@@ -201,14 +201,15 @@ fn what_is_kept_silent_is_heard_elsewhere() {
     warned(
         &folder,
         &[(below, beside)],
-        "evening.show:32: patron.wav is heard in patron-short, which is not proved silent, though \
-         line 52, `silent patron`, keeps the same 2 s of it silent in line 30",
+        "evening.show:32: patron.wav is played in patron-short, which is not proved silent, though \
+         line 52, `silent patron`, keeps the same 2 s of it silent in line 30; below patron it is \
+         silent too",
     );
     warned(
         &folder,
         &[("play clockwork.wav at 10 s", "play patron.wav for 1 s at 10 s")],
-        "evening.show:16: patron.wav is heard in bench, which is not proved silent, though line 52, \
-         `silent patron`, keeps the same 1 s of it silent in line 30",
+        "evening.show:16: patron.wav is played in bench, which is not proved silent, though line 52, \
+         `silent patron`, keeps the same 1 s of it silent in line 30; below patron it is silent too",
     );
     // Another part of the recording is no breach, and neither is one that is silent too.
     warned(&folder, &[("play letter.wav for 3 s", "play letter.wav for 2 s")], "");
@@ -328,6 +329,14 @@ fn a_broken_hold_names_its_line() {
         let parts = ["reading is not proved silent, ", why, "    allowed: ", allowed];
         assert!(code == 1 && parts.iter().all(|part| said.contains(part)), "{said}");
     }
+    // Of a track at -60 dB a pause is not the cause.
+    let leak =
+        ("    track patron-short -6 dB\n", "    track patron-short -6 dB\n        to chapel\n");
+    let (_, said) = checked(&folder, &[leak, ("pause organ", "pause organ\nat 1 s pause patron")]);
+    assert!(
+        said.contains("patron is not proved silent, since patron-short below it goes to chapel\n")
+    );
+    assert!(said.contains("allowed: no route of a track below patron; or `at 0 s pause patron`"));
     // A pause for a while around it was not meant to hold it.
     let (_, said) = checked(&folder, &[asked, ("silent reading", "silent street")]);
     assert!(said.contains("street is not proved silent, since it is at 0 dB\n"), "{said}");

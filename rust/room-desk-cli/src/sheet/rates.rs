@@ -46,7 +46,7 @@ impl Builder<'_> {
             Some((at, word)) => Finding::at(*at, word.span.clone(), what, line),
             None => {
                 let what = format!("there is no `rate` line, so {what}");
-                Finding::whole(what, format!("{line} at its head"))
+                Finding::whole(what, format!("{line}, at the sheet's head"))
             }
         })
     }

@@ -96,15 +96,15 @@ impl Sounds<'_> {
             Some(None) => "never begins".into(),
             None => format!("begins later than at {asked_for}"),
         };
-        let line = input.line(pause.line).map_or("an order".into(), |line| format!("line {line}"));
-        let (name, at) = (input.names.track(pause.index), seconds(scene.starts(pause)));
+        let (line, name) = (input.line_name(pause.line), input.names.track(pause.index));
+        let at = seconds(scene.starts(pause));
         Some(format!(
             "{when}: {line} pauses {name} at {at}, and what waits there stands still; in a track that \
              is not paused it begins at {asked_for}"
         ))
     }
 
-    /// A part of a recording that a `silent` line keeps from being heard on another track.
+    /// A part of a recording that a `silent` line keeps from being heard, played on another track.
     fn kept_silent(&self, sound: &Sound) -> Option<String> {
         let (scene, input) = (self.scene, self.input);
         // Where its own `silent` line is not proved, that is refused.
@@ -113,32 +113,32 @@ impl Sounds<'_> {
         if path.iter().any(|track| asked(track) || self.silence.proved(*track)) {
             return None;
         }
-        let ends = |sound: &Sound| sound.first + sound.count;
-        let same = |other: &Sound| {
-            other.from == sound.from && other.first < ends(sound) && sound.first < ends(other)
+        let found = input.silent.iter().find_map(|(line, name)| {
+            let (at, both) = self.silent_copy(sound, name)?;
+            Some((line, name, input.line_name(scene.line_of(Kind::Sounds, at)), both))
+        });
+        let (line, name, from, both) = found?;
+        let played = match self.owner(sound.track) {
+            0 => "on the main track".into(),
+            track => format!("in {}", input.names.track(track)),
         };
-        for (line, name) in &input.silent {
-            let track = silence::track_named(name, scene, &input.names).ok()?;
-            let kept = |other: &Sound| {
-                other.track == track || (other.track > 0 && scene.below(other.track, track))
-            };
-            let found = scene.sounds.iter().position(|other| kept(other) && same(other));
-            let Some(at) = found.filter(|_| self.silence.proved(track)) else { continue };
-            let other = &scene.sounds[at];
-            let both = ends(sound).min(ends(other)) - sound.first.max(other.first);
-            let long = exact(both, scene.head.rate);
-            let where_heard = match self.owner(sound.track) {
-                0 => "on the main track".into(),
-                track => format!("in {}", input.names.track(track)),
-            };
-            let from = input.line(scene.line_of(Kind::Sounds, at));
-            let from = from.map_or(String::new(), |from| format!(" in line {from}"));
-            return Some(format!(
-                "is heard {where_heard}, which is not proved silent, though line {line}, `silent \
-                 {name}`, keeps the same {long} of it silent{from}"
-            ));
-        }
-        None
+        let long = exact(both, scene.head.rate);
+        Some(format!(
+            "is played {played}, which is not proved silent, though line {line}, `silent {name}`, keeps \
+             the same {long} of it silent in {from}; below {name} it is silent too"
+        ))
+    }
+
+    /// A sound in a track that is proved silent, by name, and how many frames of `sound` it has.
+    fn silent_copy(&self, sound: &Sound, name: &str) -> Option<(usize, i64)> {
+        let scene = self.scene;
+        let track = silence::track_named(name, scene, &self.input.names).ok()?;
+        let inside = |other: &Sound| scene.path(other.track).contains(&track);
+        let ends = |sound: &Sound| sound.first + sound.count;
+        let both = |other: &Sound| ends(sound).min(ends(other)) - sound.first.max(other.first);
+        let same = |other: &Sound| other.from == sound.from && both(other) > 0 && inside(other);
+        let at = scene.sounds.iter().position(same).filter(|_| self.silence.proved(track))?;
+        Some((at, both(&scene.sounds[at])))
     }
 }
 
