@@ -5,8 +5,13 @@ mod common;
 use std::fs;
 use std::path::{Path, PathBuf};
 
-use common::{folder, root, run_in, status, text};
+use common::{Random, folder, root, run_in, status, text};
 use room_desk::wave::{self, Bits};
+use room_desk_cli::input::Input;
+use room_desk_cli::paint::Paint;
+use room_desk_cli::recordings::Both;
+use room_desk_cli::sheet::Fault;
+use room_desk_cli::{report, sheet, show, silence, warnings};
 
 /// The evening round, as it should be.
 const EVENING: &str = "\
@@ -354,6 +359,13 @@ fn a_line_among_the_tracks() {
          no track\n    at 13 s     pause window over 600 ms\n    ^^\n    allowed: this line behind the \
          tracks; line 22 then stands below window\n",
     );
+    // Among the orders the indented line is the one.
+    refused(
+        &evening("trial-orders-among"),
+        &[("at 20 s     set", "    play rain.wav\nat 20 s     set")],
+        "evening.show:49:10: `rain.wav` stands below no track\n        play rain.wav\n             \
+         ^^^^^^^^\n    allowed: indented below a track; line 37, at the margin, has ended the last\n",
+    );
 }
 
 /// Sheet 06: a recording's name where a track's was wanted; made names stand last.
@@ -552,4 +564,81 @@ fn the_page_shows_what_is_said() {
     let leak = text(&run_in(&root().join("examples/leak"), &["check", "leak.show"]).stdout);
     let warning = leak.lines().find(|line| line.contains("donor-low below it")).unwrap();
     assert!(page.contains(&format!("\n    {warning}\n")), "{warning}");
+}
+
+/// Everything that is said of a sheet, wherever it stops.
+fn all_that_is_said(sheet: &str, folder: &Path) -> (bool, String) {
+    let paint = Paint::default();
+    let made = match sheet::compile(sheet, folder, Both::default()) {
+        Ok(made) => made,
+        Err(Fault::Line(found) | Fault::Missing(found) | Fault::Recording(found, _)) => {
+            return (false, report::findings("x.show", sheet, &[*found], paint));
+        }
+    };
+    let input = Input {
+        name: "x.show".into(),
+        file: made.scene.text(),
+        recordings: made.recordings,
+        names: made.names,
+        sheet: Some((sheet.into(), made.lines)),
+        silent: made.silent,
+        notes: made.notes,
+    };
+    if let Err(trouble) = input.ask() {
+        return (false, report::trouble(&input, &trouble, paint));
+    }
+    let scene = input.scene().unwrap();
+    let answer = silence::ask(&input);
+    let mut said = silence::refusal(&input, &scene, &answer, paint).unwrap();
+    said += &report::warnings(&warnings::of(&input, &scene), paint);
+    (true, said + &show::text(&input, &scene, Some(answer)))
+}
+
+/// One thing that a hand might do to a sheet.
+fn damage(lines: &mut Vec<String>, random: &mut Random) {
+    const ODD: [&str; 14] = [
+        "0", "60", "-60 dB", "patron", "window", "organ", "steps", "pause", "resume", "at", "s",
+        "1e9", "\"", "é",
+    ];
+    let (at, other) = (random.below(lines.len()), random.below(lines.len()));
+    let line = lines[at].clone();
+    let (indent, rest) = line.split_at(line.len() - line.trim_start().len());
+    let mut words: Vec<&str> = rest.split(' ').filter(|word| !word.is_empty()).collect();
+    let word = random.below(words.len());
+    match random.below(7) {
+        0 => drop(lines.remove(at)),
+        1 => lines.swap(at, other),
+        2 => lines.insert(at, lines[other].clone()),
+        3 => lines[at] = rest.to_string(),
+        4 => lines[at] = format!("    {line}"),
+        5 if !words.is_empty() => {
+            words[word] = ODD[random.below(ODD.len())];
+            lines[at] = format!("{indent}{}", words.join(" "));
+        }
+        _ if !words.is_empty() => {
+            words.remove(word);
+            lines[at] = format!("{indent}{}", words.join(" "));
+        }
+        _ => {}
+    }
+}
+
+/// Sheets with lines and words changed, moved or left out: something is said of each.
+#[test]
+fn damaged_evenings_are_answered() {
+    let folder = evening("trial-damaged");
+    let mut random = Random(0x0ddb_a11c_0ffe);
+    let (mut accepted, mut warned) = (0, 0);
+    for _ in 0..1500 {
+        let mut lines: Vec<String> = EVENING.lines().map(String::from).collect();
+        for _ in 0..1 + random.below(3) {
+            damage(&mut lines, &mut random);
+        }
+        let sheet = lines.join("\n") + "\n";
+        let (made, said) = all_that_is_said(&sheet, &folder);
+        assert!(!said.is_empty(), "{sheet}");
+        accepted += usize::from(made);
+        warned += usize::from(said.contains("warning: "));
+    }
+    assert!(accepted > 300 && warned > 50, "{accepted} accepted, {warned} warned of");
 }

@@ -44,6 +44,8 @@ pub struct Builder<'a> {
     pub open: Vec<(usize, usize)>,
     /// The line at the margin that ended them.
     pub ended: Option<Ended>,
+    /// The line before the one that is read, but for empty ones.
+    pub before: usize,
     /// The least indent of the sheet.
     pub margin: usize,
     /// The number of the `rate` line, with its line.
@@ -69,6 +71,7 @@ pub fn compile(sheet: &str, folder: &Path, recordings: Both) -> Result<Made, Fau
         silent: vec![],
         open: vec![],
         ended: None,
+        before: 0,
         margin: 0,
         rate: None,
         named: vec![],
@@ -91,8 +94,10 @@ pub fn compile(sheet: &str, folder: &Path, recordings: Both) -> Result<Made, Fau
     builder.named = lines.iter().flat_map(recordings_of).collect();
     builder.named.sort();
     builder.named.dedup();
-    for words in lines {
+    for words in lines.into_iter().filter(|words| !words.is_empty()) {
+        let line = words.line;
         builder.line(words)?;
+        builder.before = line;
     }
     builder.finish()
 }
@@ -145,9 +150,6 @@ impl Builder<'_> {
     }
 
     fn line(&mut self, mut words: Words) -> Result<(), Fault> {
-        if words.is_empty() {
-            return Ok(());
-        }
         let mut tracks = vec![];
         while let Some(open) = self.open.pop_if(|open| open.0 >= words.indent) {
             tracks.push(open);

@@ -8,6 +8,7 @@ mod play;
 mod rates;
 mod reword;
 mod tracks;
+mod unknown;
 mod values;
 mod words;
 mod write;

@@ -88,7 +88,7 @@ impl Builder<'_> {
     /// A part that ends behind the end of its file.
     fn too_long(&self, words: &Words, file: &Word, part: &Word, asked: Asked) -> Finding {
         let Asked { first, count, length } = asked;
-        let rate = self.scene.head.rate;
+        let rate = self.grid().rate;
         let of = |frames: i64| seconds(frames as f64 / rate as f64);
         let long = format!("{} is {} long", file.text, of(length));
         let ways = [

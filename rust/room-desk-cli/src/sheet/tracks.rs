@@ -1,10 +1,9 @@
 //! Lines that make tracks, send tracks, clocks, routes and places.
 
-use super::build::{Builder, Ended};
+use super::build::Builder;
 use super::names::{self, SILENCING};
 use super::values::{decimal, level_or_zero};
 use super::words::{Word, Words};
-use crate::recordings::stem;
 use crate::scene::tables::{FORMAT, Format, Kind};
 use crate::scene::{Clock, Finding, Placing, Route, Track};
 
@@ -95,85 +94,11 @@ impl Builder<'_> {
         found.map(|at| at + 1).ok_or_else(|| self.no_track(words, &word))
     }
 
-    /// A name of no track; perhaps that of a recording, whose tracks are told then.
-    pub fn no_track(&self, words: &Words, word: &Word) -> Finding {
-        let known = || names::known(&word.text, self.names.tracks.iter(), "track");
-        let found = self.as_recording(words, word);
-        found.unwrap_or_else(|| words.wrong(word, "is no track here", known()))
-    }
-
-    /// The name of a recording, with or without its ending, where a track was wanted.
-    pub fn as_recording(&self, words: &Words, word: &Word) -> Option<Finding> {
-        let meant = |file: &str| [file, stem(file)].contains(&word.text.as_str());
-        let mut played: Vec<(String, usize, usize)> = vec![];
-        for (at, sound) in self.scene.sounds.iter().enumerate() {
-            let part = self.recordings.of(sound.from).part(sound.first, sound.count);
-            let file = part.map(|part| part.file.clone()).filter(|file| meant(file));
-            let track = self.written_below(at);
-            if let Some(file) = file.filter(|_| track > 0 && played.iter().all(|p| p.2 != track)) {
-                played.push((file, self.origin(Kind::Sounds, at), track));
-            }
-        }
-        let (file, ..) = played.first()?;
-        let name = |track: &usize| self.names.tracks[track - 1].clone();
-        let places =
-            played.iter().map(|(_, line, track)| format!("line {line} in {}", name(track)));
-        let places = places.collect::<Vec<_>>().join(", ");
-        let allowed = match &played[..] {
-            [(.., only)] => {
-                let around = self.scene.path(*only).iter().skip(1).map(name).collect::<Vec<_>>();
-                let around = match around.is_empty() {
-                    true => String::new(),
-                    false => format!(", or around it {}", around.join(" or ")),
-                };
-                format!("the track {}{around}", name(only))
-            }
-            _ => {
-                let tracks = played.iter().map(|(.., track)| name(track)).collect::<Vec<_>>();
-                format!("one of the tracks {}", tracks.join(", "))
-            }
-        };
-        let why = format!("is no track here: {file} is a recording, played by {places}");
-        Some(words.wrong(word, &why, allowed))
-    }
-
-    /// The track that a sound's line stands below: `play ... at` has made one of its own.
-    fn written_below(&self, sound: usize) -> usize {
-        let track = self.scene.sounds[sound].track;
-        let line = self.origin(Kind::Sounds, sound);
-        match track.checked_sub(1) {
-            Some(at) if self.origin(Kind::Tracks, at) == line => self.scene.tracks[at].parent,
-            _ => track,
-        }
-    }
-
     pub fn send_named(&self, words: &mut Words) -> Result<usize, Finding> {
         let word = words.next("the name of a send track")?;
         let found = self.names.sends.iter().position(|name| *name == word.text);
         let known = || names::known(&word.text, self.names.sends.iter(), "send track");
         found.map(|at| at + 1).ok_or_else(|| words.wrong(&word, "is no send track here", known()))
-    }
-
-    /// What is indented below no track is told by the line at the margin that ended the one above.
-    pub fn below_nothing(&self, words: &Words, word: &Word) -> Finding {
-        let outer =
-            |ended: &&Ended| ended.tracks.iter().find(|open| open.0 < words.indent).copied();
-        let ended = self.ended.as_ref().filter(|_| words.indent > self.margin);
-        let Some((ended, (_, track))) = ended.and_then(|ended| Some((ended, outer(&ended)?)))
-        else {
-            return words.wrong(word, "stands below no track", "indented below a track");
-        };
-        let (name, line) = (self.names.track(track), words.line);
-        let first = ended.first.text.as_str();
-        let what = format!(
-            "`{first}`, at the margin, ends the track {name}: `{}` in line {line} stands below no track",
-            words.first()
-        );
-        let allowed = match ["play", "to", "place"].contains(&first) {
-            true => format!("this line indented below {name}, as line {line} is"),
-            false => format!("this line behind the tracks; line {line} then stands below {name}"),
-        };
-        Finding::at(ended.line, ended.first.span.clone(), what, allowed)
     }
 
     pub fn to(&mut self, words: &mut Words, word: &Word, owner: usize) -> Result<(), Finding> {
