@@ -376,9 +376,31 @@ fn a_recording_for_a_track() {
         &folder,
         &[("pause window", "pause steps")],
         "evening.show:46:19: `steps` is no track here: steps.wav is a recording, played by line 22 in \
-         street\n    at 13 s     pause steps over 600 ms\n                      ^^^^^\n    allowed: the \
-         track street, or around it window or workshop\n",
+         street\n    at 13 s     pause steps over 600 ms\n                      ^^^^^\n    allowed: \
+         `pause window`, which line 47 resumes; or the track street, or workshop\n",
     );
+    let resume = ("resume window", "resume steps");
+    let around = "allowed: the track street, or around it window or workshop\n";
+    for (changes, allowed) in [
+        (
+            vec![resume],
+            "allowed: `resume window`, which line 46 pauses; or the track street, or workshop\n",
+        ),
+        // What is paused already, or resumed by another line, needs no other order.
+        (vec![("at 15 s     resume", "at 14 s resume window\nat 15 s     resume"), resume], around),
+        (vec![("pause window", "pause steps"), ("resume window", "resume organ")], around),
+        (
+            vec![("pause organ", "pause patron.wav"), ("resume organ", "resume patron-short")],
+            "allowed: `pause patron-short`, which line 41 resumes; or the track patron\n",
+        ),
+        (
+            vec![("pause organ", "pause \"organ 1902.wav\"")],
+            "allowed: `pause organ`, which line 41 resumes\n",
+        ),
+    ] {
+        let (code, said) = checked(&folder, &changes);
+        assert!(code == 1 && said.contains(allowed), "{changes:?}: {said}");
+    }
     for (from, to, parts) in [
         (
             "silent patron",

@@ -53,7 +53,8 @@ pub struct Builder<'a> {
     /// Every recording that the sheet names.
     pub named: Vec<String>,
     length: Option<Words>,
-    orders: Vec<Words>,
+    /// The `at` lines, read when all tracks are known.
+    pub orders: Vec<Words>,
     /// The settings that have been read.
     settings: Vec<String>,
 }
@@ -237,7 +238,7 @@ impl Builder<'_> {
         let block = self.grid().block;
         self.scene.head.blocks = (long + block - 1) / block;
         self.made(Kind::Show, words.line);
-        for words in std::mem::take(&mut self.orders) {
+        for words in self.orders.clone() {
             orders::order(&mut self, words)?;
         }
         let lines = self.lines();

@@ -30,7 +30,7 @@ impl Builder<'_> {
             played.iter().map(|p| format!("line {} in {}", p.line, self.names.track(p.track)));
         let places = places.collect::<Vec<_>>().join(", ");
         let why = format!("is no track here: {file} is a recording, played by {places}");
-        Some(words.wrong(word, &why, self.instead(&played)))
+        Some(words.wrong(word, &why, self.instead(words, &played)))
     }
 
     /// The tracks that play a recording, each once.
@@ -47,20 +47,44 @@ impl Builder<'_> {
         list
     }
 
-    /// The tracks that can be named for a recording.
-    fn instead(&self, played: &[Played]) -> String {
-        let names = |tracks: &[usize], between: &str| {
-            tracks.iter().map(|&track| self.names.track(track)).collect::<Vec<_>>().join(between)
-        };
+    /// The tracks that can be named for a recording; one that another order takes back comes first.
+    fn instead(&self, words: &Words, played: &[Played]) -> String {
         let tracks: Vec<usize> = played.iter().map(|played| played.track).collect();
-        match (&tracks[..], self.scene.path(tracks[0]).get(1..).unwrap_or_default()) {
-            ([only], []) => format!("the track {}", self.names.track(*only)),
-            ([only], around) => {
-                let around = names(around, " or ");
-                format!("the track {}, or around it {around}", self.names.track(*only))
+        let path = self.scene.path(tracks[0]);
+        let offered = if tracks.len() > 1 { &tracks } else { &path };
+        let pair = offered.iter().find_map(|&track| Some((track, self.taken_back(words, track)?)));
+        match (pair, &offered[..]) {
+            (Some((_, said)), [_]) => said,
+            (Some((track, said)), _) => {
+                let others: Vec<usize> = offered.iter().copied().filter(|&t| t != track).collect();
+                format!("{said}; or the track {}", self.listed(&others, ", or "))
             }
-            (tracks, _) => format!("one of the tracks {}", names(tracks, ", ")),
+            (None, [only]) => format!("the track {}", self.names.track(*only)),
+            (None, [own, around @ ..]) if tracks.len() == 1 => {
+                let own = self.names.track(*own);
+                format!("the track {own}, or around it {}", self.listed(around, " or "))
+            }
+            _ => format!("one of the tracks {}", self.listed(&tracks, ", ")),
         }
+    }
+
+    fn listed(&self, tracks: &[usize], between: &str) -> String {
+        tracks.iter().map(|&track| self.names.track(track)).collect::<Vec<_>>().join(between)
+    }
+
+    /// `` `pause window`, which line 47 resumes``: where that line lacks the pause that this one, of no
+    /// track, would be; or the other way round.
+    fn taken_back(&self, words: &Words, track: usize) -> Option<String> {
+        let (name, verb) = (self.names.track(track), state(words)?.0);
+        let states = self.orders.iter().filter_map(|other| Some((other.line, state(other)?)));
+        let (before, behind): (Vec<_>, Vec<_>) = states
+            .filter(|(_, (_, other))| *other == name)
+            .partition(|(line, _)| *line < words.line);
+        let (last, next) = (before.last(), behind.first());
+        let (other, same) = if verb == "pause" { (next, last) } else { (last, next) };
+        let (line, (back, _)) = other.filter(|(_, (back, _))| *back != verb)?;
+        let missing = same.is_none_or(|(_, (same, _))| *same != verb);
+        missing.then(|| format!("`{verb} {name}`, which line {line} {back}s"))
     }
 
     /// The track that a sound's line stands below: `play ... at` has made one of its own.
@@ -103,4 +127,11 @@ impl Builder<'_> {
         let finding = Finding::at(ended.line, ended.first.span.clone(), what, allowed);
         (ended.line == self.before).then_some(finding)
     }
+}
+
+/// Of an order that pauses or resumes: which, and the name behind it.
+fn state(words: &Words) -> Option<(&str, &str)> {
+    let texts: Vec<&str> = words.all().map(|word| word.text.as_str()).collect();
+    let pairs = texts.windows(2).filter(|_| words.first() == "at");
+    pairs.map(|pair| (pair[0], pair[1])).find(|pair| ["pause", "resume"].contains(&pair.0))
 }
