@@ -206,16 +206,28 @@ fn what_is_kept_silent_is_heard_elsewhere() {
     warned(
         &folder,
         &[(below, beside)],
-        "evening.show:32: patron.wav is played in patron-short, which is not proved silent, though \
-         line 52, `silent patron`, keeps the same 2 s of it silent in line 30; below patron it is \
-         silent too",
+        "evening.show:32: patron.wav may be heard in patron-short, though line 52, `silent patron`, \
+         asks that the same 2 s, in line 30, are silent; `at 0 s pause patron-short` and `silent \
+         patron-short` keep it silent there too, and so does a place below patron",
     );
-    warned(
-        &folder,
-        &[("play clockwork.wav at 10 s", "play patron.wav for 1 s at 10 s")],
-        "evening.show:16: patron.wav is played in bench, which is not proved silent, though line 52, \
-         `silent patron`, keeps the same 1 s of it silent in line 30; below patron it is silent too",
-    );
+    // What it says is enough.
+    let held = ("at 0 s      pause organ", "at 0 s pause patron-short\nat 0 s      pause organ");
+    let asked = ("silent patron\n", "silent patron\nsilent patron-short\n");
+    warned(&folder, &[(below, beside), held, asked], "");
+    // A hold of what plays other sounds too would keep them silent.
+    for (from, line, played) in [
+        ("        play clockwork.wav at 10 s", 16, "in bench"),
+        ("listener at 0 1.6 0", 37, "on the main track"),
+    ] {
+        let indent = " ".repeat(from.len() - from.trim_start().len());
+        let to = format!("{indent}play patron.wav for 1 s at 10 s");
+        let warning = format!(
+            "evening.show:{line}: patron.wav may be heard {played}, though line 52, `silent patron`, asks \
+             that the same 1 s, in line 30, are silent; below patron it is silent too"
+        );
+        let (code, said) = checked(&folder, &[(from, &to)]);
+        assert!(code == 0 && said.contains(&format!("warning: {warning}\n")), "{said}");
+    }
     // Another part of the recording is no breach, and neither is one that is silent too.
     warned(&folder, &[("play letter.wav for 3 s", "play letter.wav for 2 s")], "");
     warned(&folder, &[("play letter.wav for 3 s", "play patron.wav")], "");

@@ -118,15 +118,28 @@ impl Sounds<'_> {
             Some((line, name, input.line_name(scene.line_of(Kind::Sounds, at)), both))
         });
         let (line, name, from, both) = found?;
-        let played = match self.owner(sound.track) {
+        let owner = self.owner(sound.track);
+        let played = match owner {
             0 => "on the main track".into(),
             track => format!("in {}", input.names.track(track)),
         };
-        let long = exact(both, scene.head.rate);
+        let (long, mend) = (exact(both, scene.head.rate), self.keeps_silent(owner, name));
         Some(format!(
-            "is played {played}, which is not proved silent, though line {line}, `silent {name}`, keeps \
-             the same {long} of it silent in {from}; below {name} it is silent too"
+            "may be heard {played}, though line {line}, `silent {name}`, asks that the same \
+             {long}, in {from}, are silent; {mend}"
         ))
+    }
+
+    /// What keeps a copy of what is silent silent too: a hold, where nothing else is held by it.
+    fn keeps_silent(&self, owner: usize, silent: &str) -> String {
+        let inside = |sound: &&Sound| self.scene.path(sound.track).contains(&owner);
+        let copy = |sound: &Sound| self.silent_copy(sound, silent).is_some();
+        if owner == 0 || !self.scene.sounds.iter().filter(inside).all(copy) {
+            return format!("below {silent} it is silent too");
+        }
+        let own = self.input.names.track(owner);
+        let hold = format!("`at 0 s pause {own}` and `silent {own}`");
+        format!("{hold} keep it silent there too, and so does a place below {silent}")
     }
 
     /// A sound in a track that is proved silent, by name, and how many frames of `sound` it has.
