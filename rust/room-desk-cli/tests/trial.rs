@@ -283,11 +283,29 @@ fn turning_a_group_down_does_not_stop_its_sends() {
 #[test]
 fn orders_that_do_nothing() {
     let folder = evening("trial-orders");
+    for (pace, comes, last) in [
+        ("every 60 s", "1080.000 s", 0),
+        // A tick at the very end is not before it.
+        ("every 1.5 s", "27.000 s", 15),
+        ("0.5 per second", "36.000 s", 11),
+        ("45 per minute", "24.000 s", 17),
+        ("44 per minute", "24.545 s", 17),
+    ] {
+        warned(
+            &folder,
+            &[("60 per minute", pace)],
+            &format!(
+                "evening.show:48: tick 18 of pendulum comes at {comes} (line 7: {pace}), after the \
+                 show's end at 24.000 s: this line is never carried out; the last tick before the end \
+                 is tick {last}, and a faster clock in line 7 has more"
+            ),
+        );
+    }
     warned(
         &folder,
-        &[("60 per minute", "every 60 s")],
-        "evening.show:48: tick 18 of pendulum comes at 1080.000 s (line 7: every 60 s), after the \
-         show's end at 24.000 s: this line is never carried out",
+        &[("60 per minute", "60 per minute stopped")],
+        "evening.show:48: tick 18 of pendulum never comes, since pendulum is stopped: this line is \
+         never carried out",
     );
     warned(
         &folder,

@@ -108,6 +108,16 @@ impl Clock {
             _ => speed / 60.0,
         }
     }
+
+    /// The last whole tick before the end of so many frames.
+    pub fn last_tick(&self, frames: i64, rate: i64) -> i64 {
+        let (ticks, parts) = match self.unit {
+            0 => (frames * 1000, rate * self.speed),
+            1 => (frames * self.speed, rate * 1000),
+            _ => (frames * self.speed, rate * 60_000),
+        };
+        (ticks - 1) / parts
+    }
 }
 
 impl Order {

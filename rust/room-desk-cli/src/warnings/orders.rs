@@ -52,7 +52,9 @@ impl Asked<'_> {
                 format!("never comes, since {} is stopped", self.input.names.clock(order.clock))
             }
         };
-        Some(format!("{what} {when}: this line is never carried out"))
+        let clock = begins.and(order.clock.checked_sub(1));
+        let sooner = clock.map_or(String::new(), |at| self.sooner(at));
+        Some(format!("{what} {when}: this line is never carried out{sooner}"))
     }
 
     /// `tick 18 of pendulum`
@@ -68,6 +70,16 @@ impl Asked<'_> {
             Some(line) => format!(" (line {line}: {pace})"),
             None => format!(" ({pace})"),
         }
+    }
+
+    /// `; the last tick before the end is tick 0, and a faster clock in line 7 has more`
+    fn sooner(&self, at: usize) -> String {
+        let (scene, line) = (self.scene, self.scene.line_of(Kind::Clocks, at));
+        let last = scene.clocks[at].last_tick(scene.frames() as i64, scene.head.rate);
+        let line = self.input.line_name(line);
+        format!(
+            "; the last tick before the end is tick {last}, and a faster clock in {line} has more"
+        )
     }
 
     /// A resume of a track that plays; one that waits stops its track itself.
