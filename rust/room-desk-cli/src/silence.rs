@@ -118,22 +118,25 @@ impl Seen<'_> {
         if self.outer != self.track && !held {
             return None;
         }
-        let name = self.input.names.track(self.outer);
-        let hold = format!("`at 0 s pause {name}`");
         let mut why: Vec<String> = states.iter().filter_map(|o| self.breaks(o)).collect();
         if why.is_empty() && states.len() > 1 {
             let lines = states.iter().map(|o| self.input.line_name(o.line)).collect::<Vec<_>>();
             let lines = lines.join(" and ");
             why.push(format!("{lines} both pause {}", self.it()));
         }
-        let allowed = match &states[..] {
-            [only] if only.kind == PAUSE && only.block == 0 && only.millis > 0 && !only.waits() => {
-                format!("{hold}, without `over`")
-            }
-            [only] if only.kind == PAUSE => hold,
-            _ => format!("{hold} and no other pause or resume of {name}"),
+        self.since(why, self.as_hold(&states))
+    }
+
+    /// What makes a hold of a track's pauses and resumes: of a single pause, in its own line.
+    fn as_hold(&self, states: &[&Order]) -> String {
+        let name = self.input.names.track(self.outer);
+        let hold = format!("`at 0 s pause {name}`");
+        let [only @ Order { kind: PAUSE, .. }] = states else {
+            return format!("{hold} and no other pause or resume of {name}");
         };
-        self.since(why, allowed)
+        let fades = only.block == 0 && only.millis > 0 && !only.waits();
+        let over = if fades { ", without `over`" } else { "" };
+        format!("in {}, {hold}{over}", self.input.line_name(only.line))
     }
 
     /// What an order does other than pausing at once before the first block.

@@ -336,7 +336,7 @@ fn a_broken_hold_names_its_line() {
     let fade = "at 0 s      pause reserve over 500 ms\n";
     let first = "refused: a `silent` line is not proved\nevening.show:53:8: reserve is not proved \
                  silent, since line 39 takes 500 ms to pause it\n    silent reserve\n           \
-                 ^^^^^^^\n    allowed: `at 0 s pause reserve`, without `over`\n";
+                 ^^^^^^^\n    allowed: in line 39, `at 0 s pause reserve`, without `over`\n";
     refused(&folder, &[(pause, fade)], first);
     let inner =
         ("    play letter.wav for 3 s\n", "    track reading\n        play letter.wav for 3 s\n");
@@ -352,11 +352,15 @@ fn a_broken_hold_names_its_line() {
             "since line 40 and line 41 both pause reserve, around it\n",
             "`at 0 s pause reserve` and no other pause or resume of reserve\n",
         ),
-        (fade, "since line 40 takes 500 ms to pause reserve, around it\n", "without `over`\n"),
+        (
+            fade,
+            "since line 40 takes 500 ms to pause reserve, around it\n",
+            "in line 40, `at 0 s pause reserve`, without `over`\n",
+        ),
         (
             "at 2 s pause reserve\n",
             "line 40 pauses reserve, around it, at 2.000 s only\n",
-            "`at 0 s pause reserve`\n",
+            "in line 40, `at 0 s pause reserve`\n",
         ),
         ("at 2 s set organ to -9 dB\n", "since it is at 0 dB\n", "`at 0 s pause reading` and"),
     ] {
