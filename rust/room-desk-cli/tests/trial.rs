@@ -384,15 +384,24 @@ fn a_broken_hold_names_its_line() {
 /// Sheet 01: the line that ends the track is told, not the one behind it.
 #[test]
 fn a_line_among_the_tracks() {
+    let folder = evening("trial-among");
     let order = "at 13 s     pause window over 600 ms\n";
-    let moved = format!("    track window 0 dB\n{order}");
+    let window = "    track window 0 dB\n";
+    let moved = format!("{window}{order}");
     refused(
-        &evening("trial-among"),
-        &[(order, ""), ("    track window 0 dB\n", &moved)],
+        &folder,
+        &[(order, ""), (window, &moved)],
         "evening.show:21:1: `at`, at the margin, ends the track window: `track` in line 22 stands below \
-         no track\n    at 13 s     pause window over 600 ms\n    ^^\n    allowed: this line behind the \
-         tracks; line 22 then stands below window\n",
+         no track\n    at 13 s     pause window over 600 ms\n    ^^\n    allowed: this line behind line \
+         36, the last of the tracks; line 22 then stands below window\n",
     );
+    // What it says is enough.
+    let last = "    play letter.wav for 3 s\n";
+    warned(&folder, &[(order, ""), (last, &format!("{last}{order}"))], "");
+    // What the tracks name stands before them.
+    let (code, said) = checked(&folder, &[(window, &format!("{window}send yard\n"))]);
+    let first = "allowed: this line before the first track; line 22 then stands below window\n";
+    assert!(code == 1 && said.contains(first), "{said}");
     // Among the orders the indented line is the one.
     refused(
         &evening("trial-orders-among"),

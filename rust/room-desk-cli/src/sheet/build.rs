@@ -24,6 +24,9 @@ const RATE: &str = "frames a second, a whole number, as `rate 48000`";
 
 const SETTINGS: [&str; 6] = ["rate", "speakers", "buffer", "block", "length", "main"];
 
+/// The words of lines that make a track or stand below one.
+const INSIDE: [&str; 4] = ["track", "play", "to", "place"];
+
 /// A line at the margin that has ended tracks: its first word, and they, the innermost first.
 pub struct Ended {
     pub line: usize,
@@ -48,6 +51,8 @@ pub struct Builder<'a> {
     pub before: usize,
     /// The least indent of the sheet.
     pub margin: usize,
+    /// The last line of the tracks.
+    pub last: usize,
     /// The number of the `rate` line, with its line.
     pub rate: Option<(usize, Word)>,
     /// Every recording that the sheet names.
@@ -74,6 +79,7 @@ pub fn compile(sheet: &str, folder: &Path, recordings: Both) -> Result<Made, Fau
         ended: None,
         before: 0,
         margin: 0,
+        last: 0,
         rate: None,
         named: vec![],
         length: None,
@@ -91,6 +97,8 @@ pub fn compile(sheet: &str, folder: &Path, recordings: Both) -> Result<Made, Fau
     }
     let indents = lines.iter().filter(|words| !words.is_empty()).map(|words| words.indent);
     builder.margin = indents.min().unwrap_or(0);
+    let inside = |words: &&Words| INSIDE.contains(&words.first());
+    builder.last = lines.iter().rfind(inside).map_or(0, |words| words.line);
     builder.find_grid(&lines)?;
     builder.named = lines.iter().flat_map(recordings_of).collect();
     builder.named.sort();
@@ -170,7 +178,7 @@ impl Builder<'_> {
             };
             return Err(words.wrong(&first, "begins no line of a sheet", allowed).into());
         }
-        let inside = ["track", "play", "to", "place"].contains(&first.text.as_str());
+        let inside = INSIDE.contains(&first.text.as_str());
         if owner > 0 && !inside {
             let why = format!("stands below the track {}", self.names.track(owner));
             return Err(words

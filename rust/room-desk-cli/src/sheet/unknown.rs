@@ -120,9 +120,14 @@ impl Builder<'_> {
             "`{first}`, at the margin, ends the track {name}: `{next}` in line {line} stands below no \
              track"
         );
-        let allowed = match ["play", "to", "place"].contains(&first) {
-            true => format!("this line indented below {name}, as line {line} is"),
-            false => format!("this line behind the tracks; line {line} then stands below {name}"),
+        let then = format!("line {line} then stands below {name}");
+        let allowed = match first {
+            "play" | "to" | "place" => {
+                format!("this line indented below {name}, as line {line} is")
+            }
+            // The tracks name what these make.
+            "send" | "house" | "visitor" => format!("this line before the first track; {then}"),
+            _ => format!("this line behind line {}, the last of the tracks; {then}", self.last),
         };
         let finding = Finding::at(ended.line, ended.first.span.clone(), what, allowed);
         (ended.line == self.before).then_some(finding)
