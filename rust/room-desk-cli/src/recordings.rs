@@ -61,9 +61,44 @@ pub struct Refused {
     pub refusal: Refusal,
     /// What it is or has; may be empty.
     pub what: String,
-    /// Commands that make one that is read, and what their file's name ends with.
-    pub mend: Vec<String>,
+    pub ways: Vec<Way>,
+}
+
+/// A way to a recording that is read.
+#[derive(Debug)]
+pub struct Way {
+    /// What it makes: `16-bit`.
+    pub kind: &'static str,
+    /// The command, and what its file's name ends with; without an ending it is no command.
+    pub how: String,
     pub ending: &'static str,
+}
+
+impl Way {
+    fn sox(kind: &'static str, path: &str, options: &str) -> Self {
+        let to = quoted(&format!("{}-16.wav", stem(path)));
+        let how = format!("sox {} -b 16{options} {to}", quoted(path));
+        Self { kind, how, ending: "-16.wav" }
+    }
+
+    fn sixteen(path: &str, options: &str) -> Self {
+        Self::sox("16-bit", path, options)
+    }
+
+    /// With every bit.
+    fn float(path: &str) -> Self {
+        let to = quoted(&format!("{}-float.wav", stem(path)));
+        let how = format!("sndfile-convert -float32 {} {to}", quoted(path));
+        Self { kind: "float", how, ending: "-float.wav" }
+    }
+
+    /// For a file of the command line.
+    fn line(&self) -> String {
+        match self.kind {
+            "" => self.how.clone(),
+            kind => format!("{:<7}  {}", format!("{kind}:"), self.how),
+        }
+    }
 }
 
 impl Both {
@@ -167,49 +202,44 @@ pub fn raw(bytes: &[u8]) -> Vec<f32> {
 
 impl Refused {
     pub fn of(path: &str, bytes: &[u8], refusal: Refusal) -> Self {
-        let stem = stem(path);
-        let (from, to) = (quoted(path), quoted(&format!("{stem}-16.wav")));
-        let float = quoted(&format!("{stem}-float.wav"));
-        let sixteen = |more: &str| format!("as 16-bit:  sox {from} -b 16{more} {to}");
-        let exact = format!("as float:   sndfile-convert -float32 {from} {float}");
-        let (what, mend, ending) = match (refusal, format_chunk(bytes)) {
+        let (what, ways) = match (refusal, format_chunk(bytes)) {
             (Refusal::NotWave | Refusal::NotAiff, chunk) => {
-                let (mend, ending) = match chunk {
-                    Some((size, 3, _, _)) if size != 16 => (vec![exact], "-float.wav"),
-                    Some((size, ..)) if size != 16 => (vec![sixteen(""), exact], "-16.wav"),
-                    _ => (vec![sixteen("")], "-16.wav"),
+                let ways = match chunk {
+                    Some((size, 3, _, _)) if size != 16 => vec![Way::float(path)],
+                    Some((size, ..)) if size != 16 => {
+                        vec![Way::sixteen(path, ""), Way::float(path)]
+                    }
+                    _ => vec![Way::sixteen(path, "")],
                 };
-                (what_it_is(bytes), mend, ending)
+                (what_it_is(bytes), ways)
             }
             (Refusal::SampleKind, Some((_, kind, channels, bits))) => {
                 let what = format!("it has {}", samples_of(kind, bits, channels));
                 let two = if channels > 2 { " -c 2" } else { "" };
-                (what, vec![sixteen(two), exact], "-16.wav")
+                (what, vec![Way::sixteen(path, two), Way::float(path)])
             }
-            (Refusal::SampleKind, None) => (String::new(), vec![sixteen(" -c 2")], "-16.wav"),
+            (Refusal::SampleKind, None) => (String::new(), vec![Way::sixteen(path, " -c 2")]),
             (Refusal::BrokenFile, _) => {
                 let what = format!("it has {} bytes; does the original?", bytes.len());
-                (what, vec!["copy it again".into()], "")
+                (what, vec![Way { kind: "", how: "copy it again".into(), ending: "" }])
             }
             (Refusal::Not16Bit, _) => {
-                let rounded = format!("rounded to 16 bits:  sox {from} -b 16 {to}");
-                (String::new(), vec![rounded], "-16.wav")
+                (String::new(), vec![Way::sox("rounded to 16 bits", path, "")])
             }
             (Refusal::Rate, _) => {
-                let other = format!("at another rate:  sox {from} -b 16 -r 48000 {to}");
-                (String::new(), vec![other], "-16.wav")
+                (String::new(), vec![Way::sox("at another rate", path, " -r 48000")])
             }
-            _ => (String::new(), vec![], ""),
+            _ => (String::new(), vec![]),
         };
-        Self { path: path.into(), refusal, what, mend, ending }
+        Self { path: path.into(), refusal, what, ways }
     }
 
     /// For a file of the command line.
     pub fn text(&self) -> String {
         let (number, refusal) = (self.refusal.number(), self.refusal);
         let mut text = format!("refused {number}: {}: {refusal}\n", self.path);
-        let lines = [&self.what].into_iter().chain(&self.mend).filter(|line| !line.is_empty());
-        lines.for_each(|line| text += &format!("    {line}\n"));
+        let lines = [self.what.clone()].into_iter().chain(self.ways.iter().map(Way::line));
+        lines.filter(|line| !line.is_empty()).for_each(|line| text += &format!("    {line}\n"));
         text
     }
 }

@@ -191,10 +191,28 @@ fn a_recording_of_another_kind() {
         &[],
         "evening.show:22:18: `steps.wav` is not read: it has 24-bit samples in 1 channel\n                \
          play steps.wav at 10 s\n                     ^^^^^^^^^\n    \
-         allowed: `play steps-16.wav` here, once that file is made\n    \
-         as 16-bit:  sox steps.wav -b 16 steps-16.wav\n    \
-         as float:   sndfile-convert -float32 steps.wav steps-float.wav\nrefused 15: the samples",
+         allowed: 16-bit, by `sox steps.wav -b 16 steps-16.wav` or any sound editor; then `play \
+         steps-16.wav` here\n    or float, by `sndfile-convert -float32 steps.wav steps-float.wav`\n\
+         refused 15: the samples",
     );
+    // A name with spaces is quoted for the shell, and for the sheet.
+    let (mut long, mut cut) = (recording(8000, 9), recording(8000, 8));
+    (long[16], long[20]) = (18, 3);
+    cut.pop();
+    fs::write(folder.join("organ 1902.wav"), long).unwrap();
+    fs::write(folder.join("steps.wav"), cut).unwrap();
+    let steps = ("play steps.wav at 10 s\n", "\n");
+    for (changes, allowed) in [
+        (
+            vec![steps],
+            "float, by `sndfile-convert -float32 'organ 1902.wav' 'organ 1902-float.wav'` or any sound \
+             editor; then `play \"organ 1902-float.wav\"` here\nrefused 13",
+        ),
+        (vec![], "copy it again\nrefused 14"),
+    ] {
+        let (code, said) = checked(&folder, &changes);
+        assert!(code == 1 && said.contains(&format!("    allowed: {allowed}")), "{said}");
+    }
 }
 
 /// Sheet 07: what a `silent` line keeps silent is heard on another track.

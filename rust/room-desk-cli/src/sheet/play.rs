@@ -7,7 +7,7 @@ use super::build::Builder;
 use super::values::frames;
 use super::words::{Word, Words};
 use crate::guess::meant;
-use crate::recordings::{Both, Form, Refused, Unread, form, stem};
+use crate::recordings::{Both, Form, Refused, Unread, Way, form, stem};
 use crate::scene::model::RESUME;
 use crate::scene::tables::Kind;
 use crate::scene::{Finding, Order, Sound, Track};
@@ -172,19 +172,24 @@ struct Asked {
 
 /// A recording of a kind that is not read, with what mends it.
 fn not_read(words: &Words, file: &Word, refused: &Refused) -> Fault {
-    let name = format!("{}{}", stem(&file.text), refused.ending);
-    let here = format!("`{} {name}` here, once that file is made", words.first());
-    let mend = refused.mend.iter().map(String::as_str);
-    let lines: Vec<&str> = match refused.ending {
-        "" => mend.collect(),
-        _ => [here.as_str()].into_iter().chain(mend).collect(),
-    };
     let why = match refused.what.as_str() {
         "" => "is not read".into(),
         what => format!("is not read: {what}"),
     };
-    let finding = words.wrong(file, &why, lines.join("\n    "));
+    let finding = words.wrong(file, &why, mended(words, file, &refused.ways));
     Fault::Recording(Box::new(finding), refused.refusal)
+}
+
+/// The first way, then the line to write; the others below it.
+fn mended(words: &Words, file: &Word, ways: &[Way]) -> String {
+    let [Way { kind, how, ending }, others @ ..] = ways else { return String::new() };
+    if ending.is_empty() {
+        return how.clone();
+    }
+    let here = words.naming(&format!("{}{ending}", stem(&file.text)));
+    let first = format!("{kind}, by `{how}` or any sound editor; then {here} here");
+    let others = others.iter().map(|way| format!("\n    or {}, by `{}`", way.kind, way.how));
+    first + &others.collect::<String>()
 }
 
 /// The recordings in the folder in which one was looked for.

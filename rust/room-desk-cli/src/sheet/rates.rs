@@ -24,7 +24,7 @@ impl Builder<'_> {
         }
         let since = if self.rate.is_none() { ", since there is no `rate` line" } else { "" };
         let why = format!("has {rate} frames a second, the show {show}{since}");
-        let here = format!("`{} {}-{show}.wav`", words.first(), stem(&file.text));
+        let here = words.naming(&format!("{}-{show}.wav", stem(&file.text)));
         let mend = resampled(path, show);
         Err(words.wrong(file, &why, format!("{here}, made by `{mend}`; or `--any-rate`")))
     }

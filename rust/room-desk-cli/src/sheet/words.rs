@@ -2,6 +2,7 @@
 
 use std::ops::Range;
 
+use super::write::quoted;
 use crate::scene::Finding;
 
 /// A word: what it says, and where.
@@ -68,6 +69,11 @@ impl Words {
     /// The word that begins the line.
     pub fn first(&self) -> &str {
         self.words.first().map_or("", |word| &word.text)
+    }
+
+    /// `` `play steps-16.wav` ``: such a line, of another file.
+    pub fn naming(&self, file: &str) -> String {
+        format!("`{} {}`", self.first(), quoted(file))
     }
 
     /// How many words were read.

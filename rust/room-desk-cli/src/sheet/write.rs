@@ -35,7 +35,8 @@ fn in_order(tracks: impl Iterator<Item = usize>) -> bool {
     tracks.is_sorted()
 }
 
-fn quoted(file: &str) -> String {
+/// A file's name for a sheet.
+pub fn quoted(file: &str) -> String {
     let plain = !file.contains([' ', '#', '\t']) && !["house", "visitor"].contains(&file);
     if plain { file.into() } else { format!("\"{file}\"") }
 }
