@@ -65,16 +65,16 @@ const SPATIAL: usize = 2;
 
 // A level is two numbers, before and now; a track has two levels, volume and fade, and behind them
 // the one number of its placing.
-const LEVEL: usize = 2;
+pub const LEVEL: usize = 2;
 
 const PLACING_OFFSET: usize = 2 * LEVEL;
 
-const TRACK_LEVELS: usize = PLACING_OFFSET + 1;
+pub const TRACK_LEVELS: usize = PLACING_OFFSET + 1;
 
 // Where a column of `levels` begins. The tracks' levels begin it.
-const SENDS: usize = TRACK_PLACES * TRACK_LEVELS;
+pub const SENDS: usize = TRACK_PLACES * TRACK_LEVELS;
 
-const MAIN: usize = SENDS + SEND_LINES * LEVEL;
+pub const MAIN: usize = SENDS + SEND_LINES * LEVEL;
 
 pub const LEVELS: usize = MAIN + LEVEL;
 
@@ -84,7 +84,7 @@ pub type Levels = [f32; LEVELS];
 // Of the routes.
 pub type Amplitudes = [f32; ROUTE_LINES];
 
-fn level_at(levels: &Levels, at: usize) -> Level
+pub fn level_at(levels: &Levels, at: usize) -> Level
     requires { ⌜ at + 1 < levelsSize ⌝ }
     ensures { λ r. ⌜ r ≡ levelFrom (now (levels .entry)) at ⌝ }
 {
@@ -164,7 +164,7 @@ pub fn main_level(places: &Places, levels: &Levels, amplitudes: &Amplitudes) -> 
     level_at(levels, MAIN)
 }
 
-fn flag(yes: bool) -> usize
+pub fn flag(yes: bool) -> usize
     ensures { λ r. ⌜ r ≡ flag yes ⌝ }
 {
     if yes { 1 } else { 0 }
@@ -190,7 +190,7 @@ fn placing_level(placing: Placing) -> f32
     }
 }
 
-fn put_level(levels: &mut Levels, at: usize, level: Level)
+pub fn put_level(levels: &mut Levels, at: usize, level: Level)
     requires { ⌜ at + 1 < levelsSize ⌝ }
     ensures { λ _. ⌜ now (levels .exit) ≡ set (set (now (levels .entry)) at (level .before .0)) (at + 1) (level .now .0) ⌝ }
 {

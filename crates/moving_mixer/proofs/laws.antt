@@ -1,0 +1,13 @@
+pub mod Rest
+pub mod Moved
+pub mod Lines
+pub mod Over
+pub mod Levels
+pub mod Track
+pub mod Tracks
+pub mod Routes
+pub mod Sends
+pub mod Same
+pub mod Mixer
+pub mod Steps
+pub mod Loops

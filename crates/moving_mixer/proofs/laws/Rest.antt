@@ -1,0 +1,68 @@
+-- What is stagnant: a chunk only makes its value before the chunk the value now. Assumes nothing.
+use mathlib.Core.Path.{_≡_, refl, ap, sym, _∙_}
+use mathlib.Core.Bool.{Bool, true, false, cond, true≢false, false≢true}
+use Prim.Native.Nat.{ℕ}
+use lib.Ieee.{Float}
+use Rattle.laws.proofs.laws.Choice.{cond-true}
+use Rattle.clock.specs.declared.when_to_start.Clocks.{Clocks}
+use Rattle.parameter.specs.declared.parameter.Parameter.{Parameter}
+use Rattle.parameter.specs.declared.parameter.ParameterUpdate.{ParameterUpdate}
+use Rattle.parameter.specs.Parameter.{parameterUpdate, withPrevious}
+use Rattle.playback.specs.declared.playback_state_manager.PlaybackState.{PlaybackState}
+use Rattle.playback.specs.declared.playback_state_manager.PlaybackState.the-variants.{Playing, Pausing, Paused, WaitingToResume, Resuming, Stopping, Stopped}
+use Rattle.playback.specs.declared.playback_state_manager.PlaybackStateManager.{PlaybackStateManager}
+use Rattle.playback.specs.PlaybackStateManager.{stateUpdate, playbackUpdate, afterFade}
+use Rattle.chunk.specs.declared.chunk.Level.{Level}
+use Rattle.mixer_chunk.specs.ChunkOf.{levelOf}
+use Rattle.parameter_store.specs.Store.{Numbers, isWaiting, stagnantAt, parameterFrom, playbackFrom}
+use Rattle.moving_mixer.specs.State.{fadeNumber, playbackAt}
+use Rattle.moving_mixer.specs.Update.{stayed, levelOn, playbackRests, fadeOn}
+
+module _ (dt : Float) (clocks : Clocks) where
+  pub stagnant-update : (p : Parameter) → p .stagnant ≡ true → parameterUpdate p dt clocks ≡ record { parameter = withPrevious p; «just_finished_tween» = false }
+  unfolding parameterUpdate
+  stagnant-update p e = cond-true _ _ _ e
+
+  module _ (n : Numbers) (p : ℕ) (level : Level) (rests : stagnantAt n p ≡ true) where
+    pub stagnant-parameter : parameterUpdate (parameterFrom n p level) dt clocks .parameter ≡ parameterFrom n p (stayed level)
+    unfolding parameterFrom withPrevious
+    stagnant-parameter = ap (λ (u : ParameterUpdate). u .parameter) (stagnant-update (parameterFrom n p level) rests)
+
+    pub stagnant-level : stayed level ≡ levelOn dt clocks p level n
+    unfolding levelOn levelOf parameterFrom
+    stagnant-level = sym (ap levelOf stagnant-parameter)
+
+  -- ---- playback states
+
+  abbrev manager : PlaybackState → Parameter → PlaybackStateManager
+  manager state fade = record { state = state; «volume_fade» = fade }
+
+  state-stays : (state : PlaybackState) (fade : Parameter) → isWaiting state ≡ false → stateUpdate state fade false dt clocks .manager ≡ manager state fade
+  unfolding isWaiting stateUpdate afterFade
+  state-stays Playing fade e = refl
+  state-stays Pausing fade e = refl
+  state-stays Paused fade e = refl
+  state-stays (WaitingToResume start tween) fade e = absurd (true≢false e)
+  state-stays Resuming fade e = refl
+  state-stays Stopping fade e = refl
+  state-stays Stopped fade e = refl
+
+  rests-both : (n : Numbers) (j : ℕ) → playbackRests n j ≡ true → (isWaiting (playbackFrom n j) ≡ false) × (stagnantAt n (fadeNumber j) ≡ true)
+  unfolding playbackRests
+  rests-both n j e = go (isWaiting (playbackFrom n j)) (stagnantAt n (fadeNumber j)) refl refl e
+    where
+      go : (w s : Bool) → isWaiting (playbackFrom n j) ≡ w → stagnantAt n (fadeNumber j) ≡ s → cond w false s ≡ true → (isWaiting (playbackFrom n j) ≡ false) × (stagnantAt n (fadeNumber j) ≡ true)
+      go true s p q r = absurd (false≢true r)
+      go false s p q r = (p, q ∙ r)
+
+  module _ (n : Numbers) (j : ℕ) (level : Level) (rests : playbackRests n j ≡ true) where
+    pub playback-stays : playbackUpdate (playbackAt j level n) dt clocks .manager ≡ playbackAt j (stayed level) n
+    unfolding playbackUpdate withPrevious parameterFrom
+    playback-stays =
+        let both = rests-both n j rests in
+        ap (λ (u : ParameterUpdate). stateUpdate (playbackFrom n j) (u .parameter) (u .«just_finished_tween») dt clocks .manager) (stagnant-update (parameterFrom n (fadeNumber j) level) (both .1))
+        ∙ state-stays (playbackFrom n j) (withPrevious (parameterFrom n (fadeNumber j) level)) (both .0)
+
+    pub fade-stays : stayed level ≡ fadeOn dt clocks j level n
+    unfolding fadeOn levelOf parameterFrom
+    fade-stays = sym (ap (λ (m : PlaybackStateManager). levelOf (m .«volume_fade»)) playback-stays)

@@ -1,0 +1,4 @@
+pub mod Puts
+pub mod Reads
+pub mod Store
+pub mod Writes

@@ -1,0 +1,37 @@
+use Rattle.parameter_store.specs.Store.{easingKind}
+use borrow.Author.Needs.{needs}
+use Rattle.parameter_store.proofs.tweens.easing_kind.Statement.{statement}
+use Rattle.parameter_store.proofs.tweens.easing_kind.Tie as tie
+
+enum-told : tie.Need-enum-told
+enum-told c = search needs
+
+enum-told-2 : tie.Need-enum-told-2
+enum-told-2 c = search needs
+
+enum-told-3 : tie.Need-enum-told-3
+enum-told-3 c = search needs
+
+enum-told-4 : tie.Need-enum-told-4
+enum-told-4 c = search needs
+
+returns : tie.Need-returns
+unfolding easingKind
+returns c = search needs
+
+returns-2 : tie.Need-returns-2
+unfolding easingKind
+returns-2 c = search needs
+
+returns-3 : tie.Need-returns-3
+unfolding easingKind
+returns-3 c = search needs
+
+returns-4 : tie.Need-returns-4
+unfolding easingKind
+returns-4 c = search needs
+
+pub easing-kind-spec : {M : Type 1} → statement M
+easing-kind-spec =
+    tie.close
+    (tie.spec enum-told enum-told-2 enum-told-3 enum-told-4 returns returns-2 returns-3 returns-4)
