@@ -1,3 +1,4 @@
 pub mod Cases
 pub mod Orders
 pub mod KeptOrders
+pub mod Marks

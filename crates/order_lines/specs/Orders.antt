@@ -1,9 +1,10 @@
 -- Which of a block's orders count, and the tweens that they name (order lines stand for kira's command readers).
 use mathlib.Core.Bool.{Bool, false, cond, not, _&&_}
 use mathlib.Core.List.{List}
-use Prim.Native.Nat.{ℕ}
+use Prim.Native.Nat.{ℕ, _+_, _*_}
 use lib.Dec.{eqb, ltb}
-use lib.ListN.{getD}
+use lib.ListN.{getD, set, replicate}
+use Rattle.limits.specs.Limits.{routeLines}
 use Rattle.laws.specs.Loop.{upto}
 use Rattle.tween.specs.declared.start_time.StartTime.the-variants.{Immediate}
 use Rattle.tween.specs.declared.tween.Tween.{Tween}
@@ -43,6 +44,31 @@ dropped orders count i = eqb (kindNumber (getD orders i absentOrderLine .kind)) 
 unfoldable pub counts : List OrderLine → ℕ → ℕ → ℕ → Bool
 counts orders count block i =
     eqb (getD orders i absentOrderLine .block) block && (not (lastIsAfter orders count (getD orders i absentOrderLine .kind) i) && not (dropped orders count i))
+
+-- ---- the same by marks, made once for a block
+
+-- indices are lines of a table: at most routeLines
+abbrev pub keys : ℕ
+keys = routeLines + 1
+
+abbrev pub marksSize : ℕ
+marksSize = 6 * keys
+
+unfoldable pub key : OrderKind → ℕ → ℕ
+key kind index = kindNumber kind * keys + index
+
+-- the last line, counted from 1, of each kind and index in a block; 0 where there is none
+unfoldable pub markLine : List OrderLine → ℕ → ℕ → List ℕ → List ℕ
+markLine orders block i marks = let o = getD orders i absentOrderLine in cond (eqb (o .block) block) (set marks (key (o .kind) (o .index)) (i + 1)) marks
+
+unfoldable pub lastLines : List OrderLine → ℕ → ℕ → List ℕ
+lastLines orders count block = upto (markLine orders block) count (replicate marksSize 0)
+
+-- whether line i counts, by them
+unfoldable pub countsBy : List ℕ → OrderLine → ℕ → Bool
+countsBy marks o i =
+    not (ltb (i + 1) (getD marks (key (o .kind) (o .index)) 0))
+    && not (eqb (kindNumber (o .kind)) (kindNumber Resume) && ltb (i + 1) (getD marks (key Pause (o .index)) 0))
 
 -- ---- what an order does. A line number counts from 1
 

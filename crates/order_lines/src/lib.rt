@@ -1,6 +1,9 @@
 // Which of a block's orders count, and the tweens that they name.
 mod orders;
 
-pub use orders::counts;
+pub use orders::MARKS;
+pub use orders::Marks;
+pub use orders::counts_by;
+pub use orders::last_lines;
 pub use orders::resume_tween_of;
 pub use orders::tween_of;

@@ -1,10 +1,13 @@
 // Which of a block's orders count, and the tweens that they name: order lines stand for kira's command
 // readers.
 ghost use mathlib.Core.Path.{_≡_};
-ghost use Prim.Native.Nat.{_≤_, _<_};
+ghost use Prim.Native.Nat.{ℕ, _≤_, _<_};
+ghost use lib.ListN.{getD};
 ghost use Rattle.limits.specs.Limits.{orderLines};
-ghost use Rattle.order_lines.specs.Orders.{kindNumber, isKindFor, foundAfter, lastIsAfter, counts, tweenOf, resumeTweenOf};
+ghost use Rattle.accepted.specs.Lines.{absentOrderLine};
+ghost use Rattle.order_lines.specs.Orders.{kindNumber, keys, key, lastLines, countsBy, tweenOf, resumeTweenOf};
 use limits::ORDER_LINES;
+use limits::ROUTE_LINES;
 use scene::OrderKind;
 use scene::OrderLine;
 use tween::StartTime;
@@ -23,72 +26,58 @@ fn kind_number(kind: OrderKind) -> u32
     }
 }
 
-// Whether the other order is of this kind, and for the block and index of the order.
-fn is_kind_for(kind: OrderKind, order: OrderLine, other: OrderLine) -> bool
-    ensures { λ r. ⌜ r ≡ isKindFor kind order other ⌝ }
+// Indices are lines of a table, of which the routes' is the longest.
+const KEYS: usize = ROUTE_LINES + 1;
+
+pub const MARKS: usize = 6 * KEYS;
+
+// Of each kind and index the last line in a block. Lines are counted from 1, and 0 is none.
+pub type Marks = [usize; MARKS];
+
+fn key(kind: OrderKind, index: usize) -> usize
+    requires { ⌜ index < keys ⌝ }
+    ensures { λ r. ⌜ r ≡ key kind index ⌝ }
 {
-    if other.block != order.block {
-        return false;
-    }
-    let other_kind = other.kind;
-    if kind_number(other_kind) != kind_number(kind) {
-        return false;
-    }
-    other.index == order.index
+    kind_number(kind) as usize * KEYS + index
 }
 
-// Whether line j stands after line i, where its order is such a one.
-fn found_after(
-    kind: OrderKind,
-    order: OrderLine,
-    other: OrderLine,
-    i: usize,
-    j: usize,
-    found: bool,
-) -> bool
-    ensures { λ r. ⌜ r ≡ foundAfter kind order other i j found ⌝ }
-{
-    if is_kind_for(kind, order, other) {
-        return i < j;
-    }
-    found
-}
-
-// Whether the last line of this kind, for the block and index of line i, stands after line i.
-fn last_is_after(orders: [OrderLine; ORDER_LINES], count: usize, kind: OrderKind, i: usize) -> bool
+// Made once for a block, so that no line is compared with all others.
+pub fn last_lines(orders: [OrderLine; ORDER_LINES], count: usize, block: usize) -> Marks
     requires { ⌜ count ≤ orderLines ⌝ }
-    requires { ⌜ i < count ⌝ }
-    ensures { λ r. ⌜ r ≡ lastIsAfter orders count kind i ⌝ }
+    requires { ⌜ ((j : ℕ) → j < count → getD orders j absentOrderLine .index < keys) ⌝ }
+    ensures { λ r. ⌜ r ≡ lastLines orders count block ⌝ }
 {
-    let order = orders[i];
-    let mut found = false;
-    let mut j = 0;
-    while j < count {
-        let other = orders[j];
-        found = found_after(kind, order, other, i, j, found);
-        j += 1;
+    let mut marks = [0usize; MARKS];
+    let mut i = 0;
+    while i < count {
+        let order = orders[i];
+        i += 1;
+        if order.block == block {
+            let kind = order.kind;
+            let at = key(kind, order.index);
+            marks[at] = i;
+        }
     }
-    found
+    marks
 }
 
 // Only a resume is compared with lines of another kind.
-pub fn counts(orders: [OrderLine; ORDER_LINES], count: usize, block: usize, i: usize) -> bool
-    requires { ⌜ count ≤ orderLines ⌝ }
-    requires { ⌜ i < count ⌝ }
-    ensures { λ r. ⌜ r ≡ counts orders count block i ⌝ }
+pub fn counts_by(marks: &Marks, order: OrderLine, i: usize) -> bool
+    requires { ⌜ order .index < keys ⌝ }
+    requires { ⌜ i < orderLines ⌝ }
+    ensures { λ r. ⌜ r ≡ countsBy (now (marks .entry)) order i ⌝ }
 {
-    let order = orders[i];
-    if order.block != block {
-        return false;
-    }
     let kind = order.kind;
-    if last_is_after(orders, count, kind, i) {
+    let line = i + 1;
+    let own = key(kind, order.index);
+    if line < marks[own] {
         return false;
     }
     if kind_number(kind) != kind_number(OrderKind::Resume) {
         return true;
     }
-    !last_is_after(orders, count, OrderKind::Pause, i)
+    let pause = key(OrderKind::Pause, order.index);
+    !(line < marks[pause])
 }
 
 pub fn tween_of(order: OrderLine) -> Tween

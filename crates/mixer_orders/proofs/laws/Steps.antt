@@ -1,0 +1,155 @@
+-- What the code's steps come to: the definitions, from what each call promises. Assumes nothing.
+use mathlib.Core.Path.{_≡_, refl, ap, sym, subst, _∙_}
+use mathlib.Core.Bool.{Bool, true, false, cond, true≢false, _&&_}
+use mathlib.Core.List.{List}
+use Prim.Native.Nat.{ℕ, _-_}
+use borrow.Author.Tests.{eq-eqb, ne-eqb}
+use lib.Dec.{eqb}
+use lib.Ieee.{Float}
+use Rattle.laws.proofs.laws.Choice.{cond-true, cond-false, first-no, first-yes}
+use Rattle.decibels.specs.declared.decibels.Decibels.{Decibels}
+use Rattle.tween.specs.declared.start_time.StartTime.{StartTime}
+use Rattle.tween.specs.declared.tween.Tween.{Tween}
+use Rattle.parameter.specs.declared.parameter.Parameter.{Parameter}
+use Rattle.parameter.specs.Parameter.{parameterNew, parameterSet}
+use Rattle.playback.specs.declared.playback_state_manager.PlaybackStateManager.{PlaybackStateManager}
+use Rattle.playback.specs.PlaybackStateManager.{playbackPause, playbackResume}
+use Rattle.scene.specs.declared.scene.OrderLine.{OrderLine}
+use Rattle.scene.specs.declared.scene.OrderKind.{OrderKind}
+use Rattle.scene.specs.declared.scene.OrderKind.the-variants.{MainVolume, TrackVolume, SendVolume, RouteVolume, Pause, Resume}
+use Rattle.order_lines.specs.Orders.{tweenOf, resumeTweenOf, counts}
+use Rattle.chunk.specs.declared.chunk.Level.{Level}
+use Rattle.chunk.specs.Flat.{mainFrom, levelFrom, sendFrom}
+use Rattle.parameter_store.specs.Store.{Numbers, parameterFrom, routeLevel, withParameter}
+use Rattle.moving_mixer.specs.State.{routeNumber, sendNumber, mainNumber, volumePlace, fadePlace, playbackAt}
+use Rattle.moving_mixer.specs.Update.{withManager}
+use Rattle.mixer_orders.specs.Orders.{parameterSetOn, trackPauseOn, trackResumeOn, orderOn, resumeOn, lineOf, orderStepOn, resumeStepOn, isResume, resumesIn, IndexThere}
+
+-- ---- a parameter: a new one of its value now, once set, puts the same numbers
+
+module _ (n : Numbers) (p : ℕ) (target : Decibels) (tween : Tween) where
+  new-put : (level : Level) → withParameter p (parameterSet (parameterNew (level .now)) target tween) n ≡ parameterSetOn p level target tween n
+  unfolding parameterSetOn withParameter parameterSet parameterNew parameterFrom
+  new-put level = refl
+
+  pub set-put : (level : Level) {x y : Parameter} {m : Numbers} → x ≡ parameterNew (level .now) → y ≡ parameterSet x target tween → m ≡ withParameter p y n → m ≡ parameterSetOn p level target tween n
+  set-put level e f k = k ∙ ap (λ (z : Parameter). withParameter p z n) (f ∙ ap (λ (z : Parameter). parameterSet z target tween) e) ∙ new-put level
+
+  -- its level was read
+  pub set-read : {l level : Level} {m : Numbers} → l ≡ level → m ≡ parameterSetOn p l target tween n → m ≡ parameterSetOn p level target tween n
+  set-read e k = k ∙ ap (λ (z : Level). parameterSetOn p z target tween n) e
+
+-- ---- a playback state
+
+module _ (n : Numbers) (j : ℕ) where
+  module _ (levels : List Float) (tween : Tween) where
+    pub pause-put : {l : Level} {x y : PlaybackStateManager} {m : Numbers} → l ≡ levelFrom levels (fadePlace j) → x ≡ playbackAt j l n → y ≡ playbackPause x tween → m ≡ withManager j y n → m ≡ trackPauseOn levels j tween n
+    unfolding trackPauseOn
+    pause-put a b c k = rw (k, c, b, a) refl
+
+    pub resume-put : (start : StartTime) {l : Level} {x y : PlaybackStateManager} {m : Numbers} → l ≡ levelFrom levels (fadePlace j) → x ≡ playbackAt j l n → y ≡ playbackResume x start tween → m ≡ withManager j y n → m ≡ trackResumeOn levels j start tween n
+    unfolding trackResumeOn
+    resume-put start a b c k = rw (k, c, b, a) refl
+
+-- ---- an order, by its kind
+
+module _ (levels : List Float) (o : OrderLine) (n : Numbers) {k : OrderKind} (e : o .kind ≡ k) where
+  pub by-order : {m : Numbers} → m ≡ orderOn levels k o n → m ≡ orderOn levels (o .kind) o n
+  by-order h = h ∙ ap (λ (x : OrderKind). orderOn levels x o n) (sym e)
+
+  pub by-resume : {m : Numbers} → m ≡ resumeOn levels k o n → m ≡ resumeOn levels (o .kind) o n
+  by-resume h = h ∙ ap (λ (x : OrderKind). resumeOn levels x o n) (sym e)
+
+module _ (levels : List Float) (o : OrderLine) (n : Numbers) {tween : Tween} {m : Numbers} where
+  module _ (t : tween ≡ tweenOf o) where
+    pub main-order : o .kind ≡ MainVolume → m ≡ parameterSetOn mainNumber (levelFrom levels mainFrom) (o .target) tween n → m ≡ orderOn levels (o .kind) o n
+    unfolding orderOn
+    main-order e h = by-order levels o n e (h ∙ ap (λ (x : Tween). parameterSetOn mainNumber (levelFrom levels mainFrom) (o .target) x n) t)
+
+    pub track-order : o .kind ≡ TrackVolume → m ≡ parameterSetOn (o .index - 1) (levelFrom levels (volumePlace (o .index - 1))) (o .target) tween n → m ≡ orderOn levels (o .kind) o n
+    unfolding orderOn
+    track-order e h = by-order levels o n e (h ∙ ap (λ (x : Tween). parameterSetOn (o .index - 1) (levelFrom levels (volumePlace (o .index - 1))) (o .target) x n) t)
+
+    pub send-order : o .kind ≡ SendVolume → m ≡ parameterSetOn (sendNumber (o .index - 1)) (sendFrom levels (o .index - 1)) (o .target) tween n → m ≡ orderOn levels (o .kind) o n
+    unfolding orderOn
+    send-order e h = by-order levels o n e (h ∙ ap (λ (x : Tween). parameterSetOn (sendNumber (o .index - 1)) (sendFrom levels (o .index - 1)) (o .target) x n) t)
+
+    pub route-order : o .kind ≡ RouteVolume → m ≡ parameterSetOn (routeNumber (o .index - 1)) (routeLevel n (o .index - 1)) (o .target) tween n → m ≡ orderOn levels (o .kind) o n
+    unfolding orderOn
+    route-order e h = by-order levels o n e (h ∙ ap (λ (x : Tween). parameterSetOn (routeNumber (o .index - 1)) (routeLevel n (o .index - 1)) (o .target) x n) t)
+
+    pub pause-order : o .kind ≡ Pause → m ≡ trackPauseOn levels (o .index - 1) tween n → m ≡ orderOn levels (o .kind) o n
+    unfolding orderOn
+    pause-order e h = by-order levels o n e (h ∙ ap (λ (x : Tween). trackPauseOn levels (o .index - 1) x n) t)
+
+  pub resume-order : tween ≡ resumeTweenOf o → o .kind ≡ Resume → m ≡ trackResumeOn levels (o .index - 1) (o .«start_time») tween n → m ≡ resumeOn levels (o .kind) o n
+  unfolding resumeOn
+  resume-order t e h = by-resume levels o n e (h ∙ ap (λ (x : Tween). trackResumeOn levels (o .index - 1) (o .«start_time») x n) t)
+
+pub no-order : (levels : List Float) (o : OrderLine) (n : Numbers) → o .kind ≡ Resume → n ≡ orderOn levels (o .kind) o n
+unfolding orderOn
+no-order levels o n e = by-order levels o n e refl
+
+not-resume : (levels : List Float) (o : OrderLine) (n : Numbers) (k : OrderKind) → isResume k ≡ false → resumeOn levels k o n ≡ n
+unfolding isResume resumeOn
+not-resume levels o n MainVolume e = refl
+not-resume levels o n TrackVolume e = refl
+not-resume levels o n SendVolume e = refl
+not-resume levels o n RouteVolume e = refl
+not-resume levels o n Pause e = refl
+not-resume levels o n Resume e = absurd (true≢false e)
+
+pub no-resume : (levels : List Float) (o : OrderLine) (n : Numbers) {k : OrderKind} → o .kind ≡ k → isResume k ≡ false → n ≡ resumeOn levels (o .kind) o n
+no-resume levels o n {k} e h = by-resume levels o n e (sym (not-resume levels o n k h))
+
+pub index-by : (o : OrderLine) (k : OrderKind) → o .kind ≡ k → IndexThere (o .kind) (o .index) → IndexThere k (o .index)
+index-by o k e h = subst (λ (x : OrderKind). IndexThere x (o .index)) e h
+
+-- ---- a line
+
+pub resumes-false : (o : OrderLine) (block : ℕ) → (o .block ≡ block → ⊥) → false ≡ resumesIn o block
+unfolding resumesIn
+resumes-false o block h = first-no (eqb (o .block) block) _ (ne-eqb (o .block) block h)
+
+pub resumes-by : (o : OrderLine) (block : ℕ) {k : OrderKind} → o .block ≡ block → o .kind ≡ k → isResume k ≡ resumesIn o block
+unfolding resumesIn
+resumes-by o block {k} e f = ap isResume (sym f) ∙ first-yes (eqb (o .block) block) _ (eq-eqb (o .block) block e)
+
+module _ (levels : List Float) (orders : List OrderLine) (count block i : ℕ) (n : Numbers) where
+  skipped : eqb (lineOf orders i .block) block ≡ false → counts orders count block i ≡ false
+  unfolding counts
+  skipped e = sym (first-no (eqb (lineOf orders i .block) block) _ e)
+
+  pub order-skipped : (lineOf orders i .block ≡ block → ⊥) → n ≡ orderStepOn levels orders count block i n
+  unfolding orderStepOn
+  order-skipped h = sym (cond-false _ _ _ (skipped (ne-eqb (lineOf orders i .block) block h)))
+
+  pub order-done : {b : Bool} {m : Numbers} → b ≡ counts orders count block i → m ≡ cond b (orderOn levels (lineOf orders i .kind) (lineOf orders i) n) n → m ≡ orderStepOn levels orders count block i n
+  unfolding orderStepOn
+  order-done e h = h ∙ ap (λ (x : Bool). cond x (orderOn levels (lineOf orders i .kind) (lineOf orders i) n) n) e
+
+  either : (b : Bool) {x : Numbers} → x ≡ n → cond b x n ≡ n
+  either true e = e
+  either false e = refl
+
+  resume-skipped-by : (b : Bool) → eqb (lineOf orders i .block) block ≡ b → (b && isResume (lineOf orders i .kind)) ≡ false → resumeStepOn levels orders count block i n ≡ n
+  unfolding resumeStepOn
+  resume-skipped-by true e h = either (counts orders count block i) (not-resume levels (lineOf orders i) n (lineOf orders i .kind) h)
+  resume-skipped-by false e h = cond-false _ _ _ (skipped e)
+
+  pub resume-skipped : {b : Bool} → b ≡ resumesIn (lineOf orders i) block → b ≡ false → n ≡ resumeStepOn levels orders count block i n
+  unfolding resumesIn
+  resume-skipped e h = sym (resume-skipped-by (eqb (lineOf orders i .block) block) refl (sym e ∙ h))
+
+  pub resume-done : {b : Bool} {m : Numbers} → b ≡ counts orders count block i → m ≡ cond b (resumeOn levels (lineOf orders i .kind) (lineOf orders i) n) n → m ≡ resumeStepOn levels orders count block i n
+  unfolding resumeStepOn
+  resume-done e h = h ∙ ap (λ (x : Bool). cond x (resumeOn levels (lineOf orders i .kind) (lineOf orders i) n) n) e
+
+-- ---- where a line does not count
+
+module _ (x n : Numbers) {b : Bool} where
+  pub where-true : {m : Numbers} → b ≡ true → m ≡ x → m ≡ cond b x n
+  where-true e h = h ∙ sym (cond-true b x n e)
+
+  pub where-false : b ≡ false → n ≡ cond b x n
+  where-false e = sym (cond-false b x n e)
