@@ -1,0 +1,4 @@
+pub mod Chunks
+pub mod Still
+pub mod Shifted
+pub mod Pieces
