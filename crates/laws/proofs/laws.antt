@@ -14,6 +14,7 @@ pub mod FloatOrder
 pub mod FloatRound
 pub mod FloatLiteral
 pub mod Grains
+pub mod Unsigned
 pub mod Amount
 pub mod Interpolate
 pub mod DecibelRange

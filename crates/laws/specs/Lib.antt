@@ -6,6 +6,5 @@ pub mod Float
 pub mod FloatBounds
 pub mod FloatOrder
 pub mod FloatRound
-pub mod Amount
 pub mod Interpolate
 pub mod DecibelRange

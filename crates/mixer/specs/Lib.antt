@@ -2,4 +2,4 @@ pub mod Sub
 pub mod Mixer
 pub mod Orders
 pub mod Sounds
-pub mod MixerOk
+pub mod Mixes

@@ -11,7 +11,7 @@ ghost use Rattle.accepted.specs.SceneOk.{SceneOk};
 ghost use Rattle.mixer.specs.Mixer.{parameterOf};
 ghost use Rattle.mixer_chunk.specs.ChunkOf.{levelOf, chunkTrack, chunkRoute, chunkSound, emptyLevel};
 ghost use Rattle.mixer_chunk.specs.ChunkOf.{chunkTracks, chunkSends, chunkRoutes, chunkSounds, chunkOf};
-ghost use Rattle.mixer.specs.MixerOk.{MixerMixes};
+ghost use Rattle.mixer.specs.Mixes.{MixerMixes};
 use chunk::Chunk;
 use chunk::ChunkRoute;
 use chunk::ChunkSound;

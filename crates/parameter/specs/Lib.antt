@@ -1,2 +1,1 @@
 pub mod Parameter
-pub mod Range

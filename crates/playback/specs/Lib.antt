@@ -1,2 +1,1 @@
 pub mod PlaybackStateManager
-pub mod Runs

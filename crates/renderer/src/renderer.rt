@@ -1,23 +1,15 @@
 // kira's backend/renderer.rs.
 ghost use mathlib.Core.Path.{_≡_};
-ghost use Prim.Native.Nat.{ℕ, _+_, _*_, _^_, _≤_, _<_};
+ghost use Prim.Native.Nat.{_*_, _≤_};
 ghost use lib.ListN.{length, replicate};
-ghost use Rattle.recordings.specs.Recordings.{recordings};
 ghost use Rattle.limits.specs.Limits.{chunkFramesMost, blockFramesMost, channelsMost, rateMost};
 ghost use Rattle.laws.specs.Pieces.{pieces};
-ghost use Rattle.gain_table.specs.GainTable.{IsGainTable};
 ghost use Rattle.clock.specs.ChunkTime.{chunkTime};
-ghost use Rattle.accepted.specs.SceneOk.{SceneOk, SamplesOk};
 ghost use Rattle.frame.specs.Frame.{clamped, zeroSample};
 ghost use Rattle.frame.specs.Layout.{scratch, frameAt};
-ghost use Rattle.mixer.specs.MixerOk.{MixerOk};
-ghost use Rattle.renderer.specs.Renderer.{chunkCount, chunkFrames, channelsOf, inChunk, chunkDone, chunksDone, chunkSamples, blockSamples};
+ghost use Rattle.renderer.specs.Renderer.{chunkCount, chunkFrames, channelsOf};
 use frame::frame_at;
-use gain_table::GainTable;
-use limits::CHUNK_FRAMES;
-use mixer::Mixer;
 use scene::Head;
-use scene::Scene;
 
 pub fn chunk_count(head: Head) -> usize
     requires { ⌜ (1 ≤ head .buffer) × (head .buffer ≤ chunkFramesMost) × (head .block ≤ blockFramesMost) ⌝ }
@@ -124,65 +116,4 @@ pub fn write_frames(out: &mut [f32], channels: usize, mix: &[f32], frames: usize
         return;
     }
     write_wide(out, channels, mix, frames);
-}
-
-// Chunk k of a block: states move, frames are mixed, and then the sounds have played.
-fn process_chunk<'a>(
-    state: Mixer,
-    scene: Scene,
-    samples: &'a [f32],
-    visitor: &'a [f32],
-    table: &GainTable,
-    k: usize,
-    out: &mut [f32],
-) -> Mixer
-    requires { ⌜ IsGainTable (now table) ⌝ }
-    requires { ⌜ SceneOk scene ⌝ }
-    requires { ⌜ SamplesOk scene (recordings (now samples) (now visitor)) ⌝ }
-    requires { ⌜ ((c : ℕ) × MixerOk scene c state × (c ≤ 2 ^ 20)) ⌝ }
-    requires { ⌜ k * scene .head .buffer ≤ scene .head .block ⌝ }
-    requires { ⌜ length (now out) ≡ chunkFrames (scene .head) k * scene .head .channels ⌝ }
-    ensures state { λ r. ⌜ r ≡ chunkDone scene k state ⌝ }
-    ensures samples { λ _. ⌜ now (out .exit) ≡ chunkSamples scene (recordings (now (samples .entry)) (now (visitor .entry))) k (inChunk scene k state) ⌝ }
-{
-    let head = scene.head;
-    let frames = chunk_frames(head, k);
-    let dt = chunk_seconds(head.rate, frames);
-    let moved = state.update(scene, dt);
-    let chunk = mixer_chunk::chunk_of(scene, moved, frames, table);
-    let mut mix = [0.0f32; 2 * CHUNK_FRAMES];
-    track::process(chunk, table, samples, visitor, &mut mix);
-    write_frames(out, head.channels, &mix, frames);
-    moved.sounds_played(scene, frames)
-}
-
-// A block, from the mixer once its orders are read.
-pub fn process_block<'a>(
-    state: Mixer,
-    scene: Scene,
-    samples: &'a [f32],
-    visitor: &'a [f32],
-    table: &GainTable,
-    out: &mut [f32],
-) -> Mixer
-    requires { ⌜ IsGainTable (now table) ⌝ }
-    requires { ⌜ SceneOk scene ⌝ }
-    requires { ⌜ SamplesOk scene (recordings (now samples) (now visitor)) ⌝ }
-    requires { ⌜ ((c : ℕ) × MixerOk scene c state × (c + chunkCount (scene .head) ≤ 2 ^ 20)) ⌝ }
-    requires { ⌜ length (now out) ≡ scene .head .block * scene .head .channels ⌝ }
-    ensures state { λ r. ⌜ r ≡ chunksDone scene (chunkCount (scene .head)) state ⌝ }
-    ensures samples { λ _. ⌜ now (out .exit) ≡ blockSamples scene (recordings (now (samples .entry)) (now (visitor .entry))) state ⌝ }
-{
-    let head = scene.head;
-    let channels = head.channels;
-    let count = chunk_count(head);
-    let mut mixer = state;
-    let mut k = 0;
-    while k < count {
-        let from = k * head.buffer * channels;
-        let to = from + chunk_frames(head, k) * channels;
-        mixer = process_chunk(mixer, scene, samples, visitor, table, k, &mut out[from..to]);
-        k += 1;
-    }
-    mixer
 }

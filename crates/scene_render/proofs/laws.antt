@@ -1,1 +1,5 @@
+pub mod Orders
+pub mod Start
+pub mod Ordered
 pub mod Blocks
+pub mod Turn

@@ -1,3 +1,5 @@
-pub mod Flags
+pub mod MixerSteady
 pub mod Tests
 pub mod Steady
+pub mod Steps
+pub mod Arrays

@@ -5,6 +5,5 @@ mod send;
 mod sounds;
 mod sub;
 
-pub use mix::process;
 pub use mix::process_flat;
 pub use send::SEND_PLACES;

@@ -13,37 +13,25 @@ ghost use Rattle.track.specs.Sub.{withSubSends};
 ghost use Rattle.track.specs.Mix.{mixedSet, tracksSet, withSendTracks};
 ghost use Rattle.track.specs.Send.{sendPlaces, onSends};
 use crate::send::SEND_PART;
-use crate::send::SEND_PLACES;
 use crate::send::add_send;
 use crate::send::apply_level;
 use crate::send::clear_sends;
 use crate::sounds::add_sounds;
 use crate::sub;
 use chunk::Amplitudes;
-use chunk::Chunk;
 use chunk::FRAMES;
-use chunk::LEVELS;
 use chunk::Levels;
-use chunk::PARENTS;
-use chunk::PLACES;
 use chunk::Places;
-use chunk::ROUTE_TRACKS;
 use chunk::SEND_COUNT;
-use chunk::SOUND_TRACKS;
-use chunk::flatten;
 use chunk::main_level;
-use chunk::parts_of;
 use chunk::send_at;
 use frame::clear;
 use gain_table::GainTable;
 use level_amplitudes::Parts;
-use limits::ROUTE_LINES;
 use limits::TRACK_DEPTH;
 use links::Links;
 use links::last_line;
 use links::line_before;
-use links::links_back;
-use links::links_of;
 
 // Sets `out` to the sum of the tracks right under the mixer, latest line first.
 fn process_tracks<'a>(
@@ -187,44 +175,4 @@ pub fn process_flat<'a>(
     add_sounds(out, samples, visitor, places, levels, amplitudes, sounds, 0);
     let main = main_level(places, levels, amplitudes);
     apply_level(out, main, frames, parts, table);
-}
-
-// The same of a chunk whose tables are not laid out yet.
-pub fn process<'a>(
-    chunk: Chunk,
-    table: &GainTable,
-    samples: &'a [f32],
-    visitor: &'a [f32],
-    out: &mut [f32],
-)
-    requires { ⌜ IsGainTable (now table) ⌝ }
-    requires { ⌜ ChunkOk chunk (recordings (now samples) (now visitor)) ⌝ }
-    requires { ⌜ 2 * chunk .frames ≤ length (now out) ⌝ }
-    ensures { λ _. ⌜ (let heard = recordings (now (samples .entry)) (now (visitor .entry)) in
-        now (out .exit) ≡ withFrames (scratch 0 (chunk .frames)) (mixedSet chunk heard) (now (out .entry))) ⌝ }
-{
-    let mut places = [0usize; PLACES];
-    let mut levels = [0.0f32; LEVELS];
-    let mut amplitudes = [0.0f32; ROUTE_LINES];
-    flatten(chunk, &mut places, &mut levels, &mut amplitudes);
-    let frames = chunk.frames;
-    let parts = parts_of(frames);
-    let sub_tracks = links_of(&places, PARENTS, chunk.track_count);
-    let sounds = links_of(&places, SOUND_TRACKS, chunk.sound_count);
-    let routes = links_back(&places, ROUTE_TRACKS, chunk.route_count);
-    let mut sends = [0.0f32; SEND_PLACES];
-    process_flat(
-        &places,
-        &levels,
-        &amplitudes,
-        &sub_tracks,
-        &sounds,
-        &routes,
-        &parts,
-        table,
-        samples,
-        visitor,
-        &mut sends,
-        out,
-    );
 }

@@ -1,3 +1,4 @@
+pub mod TimeWithin
 pub mod Tween
 pub mod Tweenable
 pub mod StartTime

@@ -1,14 +1,13 @@
 -- tween.rs: easings, and a tween's value at a time.
 use mathlib.Core.Bool.{cond}
 use Prim.Native.Nat.{ℕ, zero, suc, _/_, _%_}
-use lib.Dec.{eqb, T}
-use lib.Ieee.{Float, binary64, add, sub, mul, div, lt, le}
+use lib.Dec.{eqb}
+use lib.Ieee.{Float, binary64, add, sub, mul, div, lt}
 use Rattle.tween.specs.declared.tween.Easing.{Easing}
 use Rattle.tween.specs.declared.tween.Easing.the-variants.{Linear, InPowi, OutPowi, InOutPowi}
 use Rattle.tween.specs.declared.tween.Tween.{Tween}
 use Rattle.rounding.specs.Duration.{secsFromMillis}
 use Rattle.laws.specs.Float.{half, one, two}
-use Rattle.laws.specs.Amount.{unsigned}
 
 -- The result so far, the base and what is left of the power, with so many bits to go: multiply where the lowest bit is set, then square.
 unfoldable pub powiFrom : ℕ → Float → Float → ℕ → Float
@@ -35,8 +34,3 @@ unfoldable pub tweenValue : Tween → Float → Float
 tweenValue tween time = easingApply (tween .easing) (div binary64 time (secsFromMillis (tween .duration)))
 
 -- ---- a tween's value
-
--- a time within a motion of so many milliseconds
-pub record TimeWithin (time : Float) (millis : ℕ) : Type 0 where
-  pub sign : T (unsigned time)
-  pub most : T (le time (secsFromMillis millis))

@@ -21,7 +21,7 @@ use Rattle.laws.proofs.laws.FloatRound.{rounded-le, div-rounded, digits
 use Rattle.laws.specs.FloatRound.{integer}
 use Rattle.laws.specs.Float.{posZero, half, one, two}
 use Rattle.laws.proofs.laws.FloatLiteral.{round-posZero, round-half, round-one, round-two}
-use Rattle.laws.specs.Amount.{unsigned}
+use Rattle.laws.proofs.laws.Unsigned.{unsigned}
 
 -- x is a value of the format from +0 to 1
 pub record InUnit (f : Format) (x : Float) : Type 0 where

@@ -11,7 +11,7 @@ use Rattle.clock.specs.Clock.{newClock, ClockWithin}
 use Rattle.clock.specs.WhenToStart.{ClocksWithin, absentClock}
 use Rattle.clock.proofs.laws.Moves.{newClock-within}
 use Rattle.parameter.specs.Parameter.{parameterNew}
-use Rattle.parameter.specs.Range.{ParameterIn, valueRange}
+use Rattle.parameter.proofs.laws.Range.{ParameterIn, valueRange}
 use Rattle.parameter.proofs.laws.Parameter.{new-in}
 use Rattle.playback.proofs.laws.PlaybackStateManager.{new-runs}
 use Rattle.scene.specs.declared.scene.Scene.{Scene}
@@ -19,7 +19,7 @@ use Rattle.accepted.specs.Lines.{clockLine, trackLine, sendLine, routeLine, sou
 use Rattle.accepted.specs.SceneOk.{SceneOk}
 use Rattle.mixer.specs.Sub.{trackNew}
 use Rattle.mixer.specs.Mixer.{emptyTrack, emptyParameter, emptyClock, clocksNew, tracksNew, sendsNew, routesNew, mixerNew}
-use Rattle.mixer.specs.MixerOk.{TrackOk, MixerOk}
+use Rattle.mixer.proofs.laws.MixerOk.{TrackOk, MixerOk}
 use Rattle.mixer_laws.proofs.laws.Arrays.{ArrayOk, changed-array}
 use Rattle.mixer_laws.proofs.laws.States.{TracksOk, ParametersOk, PlayedOk, mixer-ok}
 

@@ -7,7 +7,7 @@ use Rattle.recordings.specs.Recordings.{Recordings, recording}
 use Rattle.recordings.proofs.laws.Recordings.{Lent, lent-recording}
 use Rattle.limits.specs.Limits.{trackPlaces, sendLines, routeLines, soundLines, chunkFramesMost}
 use Rattle.parameter.specs.declared.parameter.Parameter.{Parameter}
-use Rattle.parameter.specs.Range.{ParameterIn, valueRange}
+use Rattle.parameter.proofs.laws.Range.{ParameterIn, valueRange}
 use Rattle.parameter.proofs.laws.Parameter.{value-admitted}
 use Rattle.scene.specs.declared.scene.Scene.{Scene}
 use Rattle.accepted.specs.Lines.{soundLine, placingAt, absentTrackLine, absentRouteLine}
@@ -18,7 +18,8 @@ use Rattle.chunk.specs.Chunk.{LevelInRange, ChunkOk, absentLevel, absentTrackRo
 use Rattle.mixer.specs.declared.mixer.Mixer.{Mixer}
 use Rattle.mixer.specs.Mixer.{stateOf, parameterOf}
 use Rattle.mixer_chunk.specs.ChunkOf.{levelOf, chunkTrack, chunkRoute, chunkSound, emptyLevel, chunkTracks, chunkSends, chunkRoutes, chunkSounds, chunkOf, emptyTrackRow, emptyRouteRow, emptySoundRow}
-use Rattle.mixer.specs.MixerOk.{MixerOk, MixerMixes}
+use Rattle.mixer.specs.Mixes.{MixerMixes}
+use Rattle.mixer.proofs.laws.MixerOk.{MixerOk}
 use Rattle.mixer_laws.proofs.laws.Arrays.{ArrayOk, changed-array}
 
 -- ---- a sound lies in the samples

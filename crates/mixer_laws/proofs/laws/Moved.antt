@@ -11,14 +11,14 @@ use lib.Ieee.{Float}
 use borrow.Author.Tests.{ltb-false}
 use Rattle.limits.specs.Limits.{sendLines, routeLines}
 use Rattle.laws.proofs.laws.Loop.{upto-holds}
-use Rattle.laws.specs.Amount.{unsigned}
+use Rattle.laws.proofs.laws.Unsigned.{unsigned}
 use Rattle.clock.specs.declared.when_to_start.Clocks.{Clocks}
 use Rattle.clock.specs.Clock.{IsStep}
 use Rattle.clock.specs.WhenToStart.{clocksUpdated, ClocksWithin, CanMoveAll}
 use Rattle.clock.proofs.laws.ClocksMove.{clocks-within, clocks-can-move}
 use Rattle.parameter.specs.declared.parameter.Parameter.{Parameter}
 use Rattle.parameter.specs.Parameter.{parameterUpdate}
-use Rattle.parameter.specs.Range.{ParameterIn, valueRange}
+use Rattle.parameter.proofs.laws.Range.{ParameterIn, valueRange}
 use Rattle.parameter.proofs.laws.Parameter.{update-in, value-kept}
 use Rattle.playback.proofs.laws.PlaybackStateManager.{update-runs}
 use Rattle.scene.specs.declared.scene.Scene.{Scene}
@@ -32,7 +32,7 @@ use Rattle.mixer.specs.declared.mixer.Mixer.{Mixer}
 use Rattle.mixer.specs.Sub.{trackMoved, trackStill, trackUpdate}
 use Rattle.mixer.specs.Mixer.{stateOf, parameterOf, liveAbove, trackStep, tracksUpdate, updatedWhere, routeUpdate, routesUpdate, sendsUpdate, mixerUpdate}
 use Rattle.mixer.specs.Sounds.{playedMore, playedAfter, playedOn, soundsPlayed}
-use Rattle.mixer.specs.MixerOk.{TrackOk, MixerOk}
+use Rattle.mixer.proofs.laws.MixerOk.{TrackOk, MixerOk}
 use Rattle.mixer_laws.proofs.laws.Arrays.{set-array, changed-array}
 use Rattle.mixer_laws.proofs.laws.States.{TracksOk, ParametersOk, tracks-of, sends-of, routes-of, played-of, mixer-ok}
 

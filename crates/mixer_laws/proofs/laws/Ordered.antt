@@ -10,7 +10,7 @@ use Rattle.laws.specs.Loop.{upto}
 use Rattle.laws.proofs.laws.Loop.{upto-holds}
 use Rattle.parameter.specs.declared.parameter.Parameter.{Parameter}
 use Rattle.parameter.specs.Parameter.{parameterSet}
-use Rattle.parameter.specs.Range.{ParameterIn, valueRange, Short}
+use Rattle.parameter.proofs.laws.Range.{ParameterIn, valueRange, Short}
 use Rattle.parameter.proofs.laws.Parameter.{set-in}
 use Rattle.playback.proofs.laws.PlaybackStateManager.{pause-runs, resume-runs}
 use Rattle.scene.specs.declared.scene.Scene.{Scene}
@@ -25,7 +25,7 @@ use Rattle.mixer.specs.Sub.{trackSet, trackPause, trackResume}
 use Rattle.mixer.specs.Mixer.{stateOf, parameterOf}
 use Rattle.order_lines.specs.Orders.{counts, tweenOf, resumeTweenOf}
 use Rattle.mixer.specs.Orders.{orderedBy, resumedBy, orderStep, resumeStep, mixerOrdered, mapTrack, mapSend, mapRoute, mapMain}
-use Rattle.mixer.specs.MixerOk.{TrackOk, MixerOk}
+use Rattle.mixer.proofs.laws.MixerOk.{TrackOk, MixerOk}
 use Rattle.mixer_laws.proofs.laws.Arrays.{set-array}
 use Rattle.mixer_laws.proofs.laws.States.{ParametersOk, tracks-of, sends-of, routes-of, played-of, mixer-ok}
 

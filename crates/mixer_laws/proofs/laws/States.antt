@@ -5,13 +5,13 @@ use Prim.Native.Nat.{ℕ, _*_, _≤_}
 use Rattle.limits.specs.Limits.{trackPlaces, sendLines, routeLines, soundLines}
 use Rattle.clock.specs.WhenToStart.{ClocksWithin}
 use Rattle.parameter.specs.declared.parameter.Parameter.{Parameter}
-use Rattle.parameter.specs.Range.{ParameterIn, valueRange}
+use Rattle.parameter.proofs.laws.Range.{ParameterIn, valueRange}
 use Rattle.scene.specs.declared.scene.Scene.{Scene}
 use Rattle.accepted.specs.Lines.{soundLine}
 use Rattle.mixer.specs.declared.sub.Track.{Track}
 use Rattle.mixer.specs.declared.mixer.Mixer.{Mixer}
 use Rattle.mixer.specs.Mixer.{absentParameter, absentTrack}
-use Rattle.mixer.specs.MixerOk.{TrackOk, MixerOk}
+use Rattle.mixer.proofs.laws.MixerOk.{TrackOk, MixerOk}
 use Rattle.mixer_laws.proofs.laws.Arrays.{ArrayOk}
 
 abbrev pub TracksOk : ℕ → ℕ → List Track → Type 0

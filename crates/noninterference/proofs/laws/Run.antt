@@ -11,7 +11,7 @@ use Rattle.renderer.proofs.laws.Lengths.{frames-most}
 use Rattle.limits.specs.Limits.{chunkFramesMost, trackPlaces}
 use Rattle.laws.specs.Loop.{upto}
 use Rattle.laws.proofs.laws.Loop.{changed-below}
-use Rattle.laws.specs.Amount.{unsigned}
+use Rattle.laws.proofs.laws.Unsigned.{unsigned}
 use Rattle.clock.specs.WhenToStart.{clocksUpdated}
 use Rattle.clock.specs.ChunkTime.{chunkTime}
 use Rattle.tween.proofs.laws.ChunkTime.{chunk-unsigned}

@@ -16,7 +16,7 @@ use Rattle.laws.proofs.laws.Kept.{rank-lt, rank-le, rank-cong}
 use Rattle.laws.proofs.laws.Float.{Zero}
 use Rattle.decibels.proofs.laws.Decibels.{amplitude-within}
 use Rattle.parameter.specs.declared.parameter.Parameter.{Parameter}
-use Rattle.parameter.specs.Range.{ParameterIn, valueRange}
+use Rattle.parameter.proofs.laws.Range.{ParameterIn, valueRange}
 use Rattle.parameter.proofs.laws.Parameter.{value-admitted}
 use Rattle.scene.specs.declared.scene.Scene.{Scene}
 use Rattle.scene.specs.declared.scene.TrackLine.{TrackLine}

@@ -7,7 +7,7 @@ use lib.Ieee.{Float}
 use Rattle.recordings.specs.Recordings.{Recordings}
 use Rattle.laws.specs.Pieces.{pieces}
 use Rattle.laws.proofs.laws.Pieces.{pieces-cong}
-use Rattle.parameter.specs.Range.{ParameterIn, valueRange}
+use Rattle.parameter.proofs.laws.Range.{ParameterIn, valueRange}
 use Rattle.scene.specs.declared.scene.Head.{Head}
 use Rattle.scene.specs.declared.scene.Scene.{Scene}
 use Rattle.accepted.specs.SceneOk.{SceneOk, SamplesOk}

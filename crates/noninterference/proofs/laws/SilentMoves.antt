@@ -12,9 +12,9 @@ use lib.Seq.{getD-set-same}
 use lib.Ieee.{Float}
 use Rattle.limits.specs.Limits.{trackPlaces}
 use Rattle.laws.proofs.laws.Loop.{upto-holds}
-use Rattle.laws.specs.Amount.{unsigned}
+use Rattle.laws.proofs.laws.Unsigned.{unsigned}
 use Rattle.clock.specs.declared.when_to_start.Clocks.{Clocks}
-use Rattle.parameter.specs.Range.{ParameterIn}
+use Rattle.parameter.proofs.laws.Range.{ParameterIn}
 use Rattle.parameter.proofs.laws.Parameter.{silentRange, update-in, silent-kept}
 use Rattle.playback.specs.declared.playback_state_manager.PlaybackState.the-variants.{Paused}
 use Rattle.playback.specs.declared.playback_state_manager.PlaybackStateManager.{PlaybackStateManager}

@@ -10,7 +10,7 @@ use borrow.Author.Tests.{eqb-false}
 use Rattle.laws.proofs.laws.Choice.{cond-true}
 use Rattle.laws.specs.Float.{posZero}
 use Rattle.laws.proofs.laws.Amount.{InUnit, add-unsigned}
-use Rattle.laws.specs.Amount.{unsigned}
+use Rattle.laws.proofs.laws.Unsigned.{unsigned}
 use Rattle.laws.specs.DecibelRange.{ValueRange}
 use Rattle.laws.proofs.laws.DecibelRange.{SilentRange, target→value, value→read}
 use Rattle.rounding.specs.Duration.{secsFromMillis}
@@ -21,7 +21,8 @@ use Rattle.clock.specs.declared.when_to_start.Clocks.{Clocks}
 use Rattle.tween.specs.declared.start_time.StartTime.{StartTime}
 use Rattle.tween.specs.declared.start_time.StartTime.the-variants.{Immediate, Delayed, ClockTime}
 use Rattle.tween.specs.declared.tween.Tween.{Tween}
-use Rattle.tween.specs.Tween.{tweenValue, TimeWithin}
+use Rattle.tween.proofs.laws.TimeWithin.{TimeWithin}
+use Rattle.tween.specs.Tween.{tweenValue}
 use Rattle.tween.proofs.laws.Tween.{within-start, within-step, no-length-ends, tween-amount}
 use Rattle.tween.specs.Tweenable.{interpolated}
 use Rattle.tween.proofs.laws.Tweenable.{interpolated-moves, interpolated-silent}
@@ -31,7 +32,7 @@ use Rattle.parameter.specs.declared.parameter.Parameter.{Parameter}
 use Rattle.parameter.specs.declared.parameter.ParameterUpdate.{ParameterUpdate}
 use Rattle.parameter.specs.declared.parameter.TweenStart.{TweenStart}
 use Rattle.parameter.specs.Parameter.{parameterNew, parameterSet, startedAt, tweenStart, withState, tweenMove, tweenUpdateIn, tweenUpdate, valueIn, newRawValue, withPrevious, withNewValue, parameterUpdate}
-use Rattle.parameter.specs.Range.{Range, valueRange, Short, StateIn, ParameterIn}
+use Rattle.parameter.proofs.laws.Range.{Range, valueRange, Short, StateIn, ParameterIn}
 
 -- ---- it stays there
 

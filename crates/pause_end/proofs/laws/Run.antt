@@ -18,7 +18,7 @@ use Rattle.scene.specs.declared.scene.Scene.{Scene}
 use Rattle.accepted.specs.Lines.{orderLine}
 use Rattle.accepted.specs.SceneOk.{SceneOk}
 use Rattle.mixer.specs.declared.mixer.Mixer.{Mixer}
-use Rattle.mixer.specs.MixerOk.{MixerOk}
+use Rattle.mixer.proofs.laws.MixerOk.{MixerOk}
 use Rattle.mixer.specs.Orders.{mixerOrdered}
 use Rattle.order_lines.specs.Orders.{tweenOf}
 use Rattle.mixer_laws.proofs.laws.Ordered.{ordered-ok}

@@ -7,7 +7,7 @@ use lib.Dec.{T}
 use lib.Ieee.{Float, neg, ofInt}
 use Rattle.laws.proofs.laws.Choice.{cond-false}
 use Rattle.laws.specs.Float.{posZero}
-use Rattle.laws.specs.Amount.{unsigned}
+use Rattle.laws.proofs.laws.Unsigned.{unsigned}
 use Rattle.laws.proofs.laws.DecibelRange.{target→value, silent→target, minus-sixty, minus-sixty-silent, posZero-target}
 use Rattle.clock.specs.declared.when_to_start.Clocks.{Clocks}
 use Rattle.tween.specs.declared.start_time.StartTime.{StartTime}
@@ -22,10 +22,10 @@ use Rattle.playback.specs.declared.playback_state_manager.PlaybackState.
 use Rattle.playback.specs.declared.playback_state_manager.PlaybackStateManager.{PlaybackStateManager}
 use Rattle.playback.specs.declared.playback_state_manager.PlaybackUpdate.{PlaybackUpdate}
 use Rattle.parameter.specs.Parameter.{parameterSet, parameterUpdate}
-use Rattle.parameter.specs.Range.{ParameterIn, valueRange, Short}
+use Rattle.parameter.proofs.laws.Range.{ParameterIn, valueRange, Short}
 use Rattle.parameter.proofs.laws.Parameter.{new-in, set-in, update-in, set-at-once, value-kept}
 use Rattle.playback.specs.PlaybackStateManager.{isStopped, silent, identity, playbackNew, playbackPause, resumed, resumedAt, playbackResume, unchanged, changedTo, afterFade, waitedUntil, waitingUpdate, stateUpdate, playbackUpdate}
-use Rattle.playback.specs.Runs.{StateRuns, Runs}
+use Rattle.playback.proofs.laws.Runs.{StateRuns, Runs}
 
 pub runs-not-stopped : (count : ℕ) (state : PlaybackState) → StateRuns count state → isStopped state ≡ false
 unfolding isStopped

@@ -3,19 +3,17 @@ use mathlib.Core.Path.{_≡_, refl, sym, ap, ap₂, _∙_, subst}
 use mathlib.Core.Bool.{Bool, true, false, cond}
 use mathlib.Core.List.{List, _++_}
 use Prim.Native.Nat.{ℕ, zero, suc, _+_, _-_, _*_, _≤_, _<_}
-use native.Mathlib.Nat.{le-trans, le-of-eq, add-mul, mul-le-mul, mul-assoc, zero-mul, mul-le-mul-left, mul-le-mul-right, div-mul-le-self, lt-div-mul-add, add-sub-cancel-left}
+use native.Mathlib.Nat.{le-trans, le-of-eq, add-mul, mul-assoc, zero-mul, mul-le-mul-left, mul-le-mul-right, div-mul-le-self, lt-div-mul-add, add-sub-cancel-left}
 use native.Mathlib.Omega.{arith}
-use lib.Dec.{ltb, lit≤}
+use lib.Dec.{ltb}
 use lib.ListN.{length, take, drop, length-append}
 use lib.Ieee.{Float}
 use borrow.Author.Tests.{ltb-true, ltb-false}
 use Rattle.recordings.specs.Recordings.{Recordings}
-use Rattle.limits.specs.Limits.{blockFramesMost, channelsMost}
 use Rattle.laws.specs.Pieces.{pieces, begun}
 use Rattle.laws.proofs.laws.Pieces.{pieces-zero, pieces-suc, length-pieces, length-elements, part-put, begun-next}
 use Rattle.scene.specs.declared.scene.Head.{Head}
 use Rattle.scene.specs.declared.scene.Scene.{Scene}
-use Rattle.accepted.specs.SceneOk.{SceneOk}
 use Rattle.frame.specs.declared.frame.Frame.{Frame}
 use Rattle.frame.specs.Frame.{clamped}
 use Rattle.track.specs.Mix.{mixedFrame}
@@ -103,9 +101,6 @@ pub place-ends : (h : Head) (k n c : ℕ) → 1 ≤ h .buffer → k < chunkCount
 place-ends h k n c some l e =
     le-trans (le-of-eq (sym (add-mul (k * h .buffer) n c)))
     (mul-le-mul-right c (le-trans (le-of-eq (ap (λ (i : ℕ). k * h .buffer + i) e)) (chunk-ends h k some l)))
-
-pub room : (s : Scene) → SceneOk s → s .head .block * s .head .channels ≤ blockFramesMost * channelsMost
-room s ok = le-trans (mul-le-mul (ok .block .1) (ok .channels .1)) (lit≤ tt)
 
 -- ---- lengths of samples
 

@@ -11,7 +11,7 @@ use Rattle.recordings.specs.Recordings.{Recordings}
 use Rattle.laws.proofs.laws.DecibelRange.{ReadRange, value→read}
 use Rattle.tween.specs.Tweenable.{interpolated}
 use Rattle.tween.proofs.laws.Tweenable.{interpolated-read}
-use Rattle.parameter.specs.Range.{ParameterIn, valueRange}
+use Rattle.parameter.proofs.laws.Range.{ParameterIn, valueRange}
 use Rattle.decibels.specs.Answer.{Answer, amplitudeAnswer}
 use Rattle.decibels.specs.Decibels.{admitted, amplitude}
 use Rattle.decibels.proofs.laws.Decibels.{read-admitted}
@@ -31,7 +31,7 @@ use Rattle.chunk.specs.Chunk.{LevelInRange, ChunkOk, amountAt, trackRow, sendRo
 use Rattle.mixer.specs.Mixer.{parameterOf}
 use Rattle.mixer.specs.Orders.{mixerOrdered}
 use Rattle.mixer_chunk.specs.ChunkOf.{chunkOf}
-use Rattle.mixer.specs.MixerOk.{MixerOk}
+use Rattle.mixer.proofs.laws.MixerOk.{MixerOk}
 use Rattle.mixer_laws.proofs.laws.Ordered.{ordered-ok}
 use Rattle.mixer_laws.proofs.laws.Mixes.{chunk-ok}
 use Rattle.renderer.specs.Renderer.{chunkCount, chunkFrames, mixerAt, chunksDone, mixerIn, chunkIn}

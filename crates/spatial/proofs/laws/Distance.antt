@@ -7,7 +7,7 @@ use lib.Ieee.{Float, nan, inf, fin, binary32, up, down, add, sub, mul, le, fits}
 use lib.Ieee.Fits.{add-fits}
 use lib.Ieee.Scale.{finite}
 use lib.Ieee.Back.{round-whole}
-use Rattle.laws.specs.Amount.{unsigned}
+use Rattle.laws.proofs.laws.Unsigned.{unsigned}
 use Rattle.laws.specs.Float.{posZero}
 use Rattle.laws.specs.FloatBounds.{Within}
 use Rattle.laws.specs.FloatOrder.{Number}

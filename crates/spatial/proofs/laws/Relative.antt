@@ -12,7 +12,7 @@ use lib.Ieee.{Float, nan, inf, fin, Format, binary32, emax, low, up, down, round
 use lib.Ieee.Fits.{sub-fits}
 use lib.Ieee.Order.{round-mono}
 use lib.Ieee.Scale.{finite}
-use Rattle.laws.specs.Amount.{unsigned}
+use Rattle.laws.proofs.laws.Unsigned.{unsigned}
 use Rattle.laws.specs.Float.{posZero, one, whole}
 use Rattle.laws.specs.FloatOrder.{Number, plus, minus}
 use Rattle.laws.specs.FloatRound.{Between}

@@ -13,7 +13,7 @@ use lib.Ieee.Bits.{ofBits-toBits}
 use Rattle.decibels.specs.declared.decibels.Decibels.{Decibels}
 use Rattle.clock.specs.declared.when_to_start.Clocks.{Clocks}
 use Rattle.parameter.specs.declared.parameter.Parameter.{Parameter}
-use Rattle.parameter.specs.Range.{ParameterIn, valueRange}
+use Rattle.parameter.proofs.laws.Range.{ParameterIn, valueRange}
 use Rattle.playback.specs.declared.playback_state_manager.PlaybackState.{PlaybackState}
 use Rattle.playback.specs.declared.playback_state_manager.PlaybackState.the-variants.{Playing, Pausing, Paused, WaitingToResume, Resuming, Stopping, Stopped}
 use Rattle.playback.specs.PlaybackStateManager.{isAdvancing, unchanged, stateUpdate, playbackUpdate}
@@ -38,8 +38,9 @@ use Rattle.playback.specs.declared.playback_state_manager.PlaybackStateManager.
 use Rattle.scene_tables.proofs.laws.Every.{every-at}
 use Rattle.accepted.specs.SceneOk.{SceneOk}
 use Rattle.mixer.specs.Sub.{trackMoved, trackStill, trackUpdate}
-use Rattle.mixer.specs.MixerOk.{MixerOk}
-use Rattle.steady_mixer.specs.Steady.{TrackIn, afterRun, sameLevel, parameterSteady, stateSteady, reachedSteady, steadyWhere, steadyTrack, routeSteady, steadyRoute, steadySend, mixerSteady}
+use Rattle.mixer.proofs.laws.MixerOk.{MixerOk}
+use Rattle.steady_mixer.proofs.laws.MixerSteady.{afterRun, steadyTrack, steadyRoute, steadySend, mixerSteady}
+use Rattle.steady_mixer.specs.Steady.{sameLevel, parameterSteady, stateSteady, reachedSteady, steadyWhere, routeSteady}
 use Rattle.accepted.specs.Lines.{absentTrackLine, absentRouteLine}
 
 unfoldable pub withClocks : Clocks → Mixer → Mixer
@@ -60,6 +61,10 @@ withPlayed sounds c =
       sounds = sounds;
       main = c .main;
     }
+
+-- a track's values are numbers
+abbrev TrackIn : Track → Type 0
+TrackIn t = ParameterIn valueRange (t .volume) × ParameterIn valueRange (t .playback .«volume_fade»)
 
 -- ---- arrays and flags
 

@@ -8,7 +8,7 @@ use lib.Ieee.Scale.{finite}
 use Rattle.laws.proofs.laws.FloatOrder.{le-through}
 use Rattle.laws.specs.FloatRound.{integer}
 use Rattle.laws.proofs.laws.FloatRound.{at-integer, number}
-use Rattle.laws.specs.Amount.{unsigned}
+use Rattle.laws.proofs.laws.Unsigned.{unsigned}
 use Rattle.laws.proofs.laws.Amount.{round-unsigned, amount-number, place-amount}
 use Rattle.rounding.specs.Duration.{InAnHour}
 use Rattle.clock.specs.ChunkTime.{chunkTime}

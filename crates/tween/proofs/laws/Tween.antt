@@ -20,12 +20,13 @@ use Rattle.laws.proofs.laws.FloatOrder.{units→lt, lt→units}
 use Rattle.laws.specs.FloatRound.{Between, integer}
 use Rattle.laws.proofs.laws.FloatRound.{at-integer, number, units-least, add-between}
 use Rattle.laws.proofs.laws.Amount.{InUnit, round-unsigned, add-unsigned, power-amount, mul-amount, div-amount, positive-of-lt, one-minus-amount, double-amount, mirror-amount, one-in-unit, half-amount, mirrored-upper-amount, amount-number, amount-minus, amount-plus, place-above-zero}
-use Rattle.laws.specs.Amount.{unsigned}
+use Rattle.laws.proofs.laws.Unsigned.{unsigned}
 use Rattle.rounding.specs.Duration.{secsFromMillis}
 use Rattle.tween.specs.declared.tween.Easing.{Easing}
 use Rattle.tween.specs.declared.tween.Easing.the-variants.{Linear, InPowi, OutPowi, InOutPowi}
 use Rattle.tween.specs.declared.tween.Tween.{Tween}
-use Rattle.tween.specs.Tween.{powiFrom, powi, inOutPowi, easingApply, tweenValue, TimeWithin}
+use Rattle.tween.proofs.laws.TimeWithin.{TimeWithin}
+use Rattle.tween.specs.Tween.{powiFrom, powi, inOutPowi, easingApply, tweenValue}
 
 -- ---- easings
 

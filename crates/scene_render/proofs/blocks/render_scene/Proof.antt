@@ -1,215 +1,196 @@
--- `render_scene` meets its contract. Where the loop's test is used, `omega` has beside it that there is a block: so a test that ends the loop too early
--- is refused where the output is told, at `returns`. Assumes nothing.
-use mathlib.Core.Path.{_≡_, refl, sym, ap, _∙_}
-use Prim.Native.Nat.{_+_, _-_, _*_, _≤_, _<_}
+-- `render_scene` meets its contract: what it lays out is what `render_blocks` begins with. Assumes nothing.
+use mathlib.Core.Path.{refl, sym, ap, _∙_}
+use Prim.Native.Nat.{ℕ, _-_}
 use native.Mathlib.Nat.{le-trans, le-of-eq}
 use native.Mathlib.Omega.{arith}
-use lib.ListN.{length}
+use lib.Dec.{lit≤}
+use lib.ListN.{length, replicate, length-replicate}
+use lib.Ieee.{binary32, binary64, ofBits}
 use borrow.Author.Needs.{needs}
-use borrow.Rule.Slice.PartMut.{same-len-mid}
 use Rattle.recordings.specs.Recordings.{recordings}
-use Rattle.laws.specs.Pieces.{pieces, begun}
-use Rattle.laws.proofs.laws.Pieces.{length-part, begun-zero}
 use Rattle.chunk.specs.Chunk.{partsOf}
-use Rattle.mixer.specs.Orders.{mixerOrdered}
-use Rattle.renderer.specs.Renderer.{chunkCount, mixerAt}
-use Rattle.renderer.proofs.laws.Renderer.{chunks-few, few-frames}
-use Rattle.steady_blocks.proofs.laws.SteadyBlocks.{next-after, next-most}
-use Rattle.steady_blocks.proofs.laws.Run.{showPiece, run-shows, run-written}
-use Rattle.scene_render.proofs.laws.Blocks.{width, width-most, show-length, block-ends, block-fits, show-turn, show-end, mixer-start, mixer-turn, mixer-reached, run-asks}
+use Rattle.chunk.proofs.laws.Flat.{places-length}
+use Rattle.mixer_laws.proofs.laws.Mixes.{mixes}
+use Rattle.renderer.specs.Renderer.{chunkCount}
+use Rattle.renderer.proofs.laws.Renderer.{few-frames}
+use Rattle.parameter_store.specs.Store.{Numbers, numbers, Sized, kindsSize, countsSize, shortsSize, valuesSize, timesSize}
+use Rattle.block_render.proofs.laws.Linked.{chunk-fits}
+use Rattle.scene_render.proofs.laws.Blocks.{wide-head, wide-last, rest-is}
+use Rattle.scene_render.proofs.laws.Start.{new-made, counts-fit, laid-begins}
 use Rattle.scene_render.proofs.blocks.render_scene.Statement.{statement}
 use Rattle.scene_render.proofs.blocks.render_scene.Tie as tie
 
-abbrev Inv-loop : tie.InvT-loop
-Inv-loop scene samples visitor output₀ table blocks wide full last mixer₀ b₀ output mixer b =
-    (b ≤ scene .head .blocks) × (length output ≡ length output₀) × (mixer ≡ mixerAt scene b) × (output ≡ begun (pieces (showPiece scene (recordings samples visitor)) b) output₀)
+-- the numbers before the mixer is put
+abbrev zeros : Numbers
+zeros = numbers (replicate kindsSize 0) (replicate countsSize 0) (replicate shortsSize 0) (replicate valuesSize (ofBits binary32 0)) (replicate timesSize (ofBits binary64 0))
 
-abbrev μ-loop : tie.MeasureT-loop
-μ-loop scene samples visitor output₀ table blocks wide full last mixer₀ b₀ output mixer b = scene .head .blocks - b
+zeros-sized : Sized zeros
+zeros-sized =
+    record {
+      kinds = length-replicate {A = ℕ} kindsSize 0;
+      counts = length-replicate {A = ℕ} countsSize 0;
+      shorts = length-replicate {A = ℕ} shortsSize 0;
+      values = length-replicate valuesSize (ofBits binary32 0);
+      times = length-replicate timesSize (ofBits binary64 0);
+    }
 
--- ---- before the loop
-
-gain-table-requires : tie.Need-gain-table-requires Inv-loop μ-loop
+gain-table-requires : tie.Need-gain-table-requires
 gain-table-requires c κs = tt
 
-mul-width : tie.Need-mul-width Inv-loop μ-loop
-mul-width c = omega (arith, width-most (c .before .before .before .before .before .before .args .scene) (c .before .before .before .before .before .before .pre .0))
+parts-of-requires : tie.Need-parts-of-requires
+parts-of-requires c κs = c .before .before .before .before .before .pre .0 .buffer .1
 
-parts-of-requires : tie.Need-parts-of-requires Inv-loop μ-loop
-parts-of-requires c κs = c .before .before .before .before .before .before .pre .0 .buffer .1
-
-last-frames-requires : tie.Need-last-frames-requires Inv-loop μ-loop
+last-frames-requires : tie.Need-last-frames-requires
 last-frames-requires c κs =
-    let ok = c .before .before .before .before .before .before .before .pre .0 in
+    let ok = c .before .before .before .before .before .before .pre .0 in
     (ok .buffer .0, ok .buffer .1, ok .block .0, ok .block .1)
 
-parts-of-requires-2 : tie.Need-parts-of-requires-2 Inv-loop μ-loop
+parts-of-requires-2 : tie.Need-parts-of-requires-2
 parts-of-requires-2 c κs =
-    let start = c .before .before .before .before .before .before .before .before in
+    let start = c .before .before .before .before .before .before .before in
     le-trans (le-of-eq (c .last-frames .ensures)) (few-frames (start .args .scene) (chunkCount (start .args .scene .head) - 1) (start .pre .0))
 
-new-requires : tie.Need-new-requires Inv-loop μ-loop
-new-requires c κs = c .before .before .before .before .before .before .before .before .before .pre .0
+parts-of-requires-3 : tie.Need-parts-of-requires-3
+parts-of-requires-3 c κs = lit≤ tt
 
-loop-holds : tie.Need-loop-holds Inv-loop μ-loop
-loop-holds c = (omega arith, refl, c .new .ensures ∙ mixer-start (c .before .before .before .before .before .before .before .before .before .before .args .scene), begun-zero _ _)
+still-head-requires : tie.Need-still-head-requires
+still-head-requires c κs = tt
 
--- ---- a turn
+last-frames-requires-2 : tie.Need-last-frames-requires-2
+last-frames-requires-2 c κs =
+    let start = c .before .before .before .before .before .before .before .before .before .before in
+    wide-head (start .args .scene) (start .pre .0) (c .still-head .ensures)
 
-mul-from : tie.Need-mul-from Inv-loop μ-loop
-mul-from c =
-    let start = c .before .before .before .before .before .before .before .before .before .before .before .before in
-    omega (arith, block-fits (start .args .scene) (start .pre .0) (c .before .loop .b) (omega (arith, c .loop-test .taken, start .pre .0 .blocks .0)))
+parts-of-requires-4 : tie.Need-parts-of-requires-4
+parts-of-requires-4 c κs =
+    let start = c .before .before .before .before .before .before .before .before .before .before .before in
+    wide-last (start .args .scene) (start .pre .0) (c .before .still-head .ensures) (c .last-frames2 .ensures)
 
-add-to : tie.Need-add-to Inv-loop μ-loop
-add-to c =
-    let start = c .before .before .before .before .before .before .before .before .before .before .before .before in
-    omega (arith, block-fits (start .args .scene) (start .pre .0) (c .before .loop .b) (omega (arith, c .loop-test .taken, start .pre .0 .blocks .0)))
+new-requires : tie.Need-new-requires
+new-requires c κs = c .before .before .before .before .before .before .before .before .before .before .before .before .pre .0
 
-on-start-processing-requires : tie.Need-on-start-processing-requires Inv-loop μ-loop
-on-start-processing-requires c κs = c .before .before .before .before .before .before .before .before .before .before .before .before .pre .0
-
-is-steady-requires : tie.Need-is-steady-requires Inv-loop μ-loop
-is-steady-requires c κs =
-    let start = c .before .before .before .before .before .before .before .before .before .before .before .before .before in
-    let l = c .before .before in
-    (start .pre .0, (l .loop .b * chunkCount (start .args .scene .head), mixer-reached (start .args .scene) (start .pre .0) (l .loop .b) (l .loop .inv .2) (c .on-start-processing .ensures)))
-
--- ---- a run of blocks in which nothing moves
-
-steady-blocks-requires : tie.Need-steady-blocks-requires Inv-loop μ-loop
-steady-blocks-requires c κs =
-    let l = c .before .before .before .before .before .before .before .before in
-    let start = c .before .before .before .before .before .before .before .before .before .before .before .before .before .before .before .before .before .before .before in
-    let ok = start .pre .0 in
-    let h : l .loop .b < start .args .scene .head .blocks = omega (arith, c .before .before .before .before .before .before .before .loop-test .taken, ok .blocks .0) in
-    let ask = run-asks (start .args .scene) (recordings (start .args .samples .now) (start .args .visitor .now)) ok (start .pre .1 .0) (l .loop .b) h (l .loop .inv .2) (c .before .before .before .before .before .before .on-start-processing .ensures) (sym (c .before .before .before .before .before .is-steady .ensures) ∙ c .before .before .before .before .if1 .taken) in
-    let last = c .before .before .before .before .before .before .before .before .before .before .parts-of2 .ensures ∙ ap partsOf (c .before .before .before .before .before .before .before .before .before .before .before .last-frames .ensures) in
-    (c .before .before .before .before .before .before .before .before .before .before .before .before .before .before .before .gain-table .ensures, (ask, (c .before .before .before .before .before .before .before .before .before .before .before .before .parts-of .ensures, (last, l .loop .inv .1 ∙ start .pre .1 .1))))
-
-loop-less : tie.Need-loop-less Inv-loop μ-loop
-loop-less c =
-    let l = c .before .before .before .before .before .before .before .before .before .before .before .before in
-    let start = c .before .before .before .before .before .before .before .before .before .before .before .before .before .before .before .before .before .before .before .before .before .before .before in
+chunk-of-requires : tie.Need-chunk-of-requires
+chunk-of-requires c κs =
+    let start = c .before .before .before .before .before .before .before .before .before .before .before .before .before .before in
     let s = start .args .scene in
-    let h : l .loop .b < s .head .blocks = omega (arith, c .before .before .before .before .before .before .before .before .before .before .before .loop-test .taken, start .pre .0 .blocks .0) in
-    omega (arith, c .before .before .before .steady-blocks .ensures .0, next-after s (l .loop .b) h, next-most s (l .loop .b) h)
+    let heard = recordings (start .args .samples .now) (start .args .visitor .now) in
+    (c .before .before .before .before .before .before .before .before .before .before .gain-table .ensures, (start .pre .0, mixes s heard 0 (c .before .new .result) (start .pre .0) (start .pre .1 .0) (omega (arith, start .good .1 .0 .1), omega (arith, start .good .1 .1 .0 .1)) (new-made s (start .pre .0) (c .before .new .ensures))))
 
-loop-again : tie.Need-loop-again Inv-loop μ-loop
-loop-again c =
-    let l = c .before .before .before .before .before .before .before .before .before .before .before .before in
-    let start = c .before .before .before .before .before .before .before .before .before .before .before .before .before .before .before .before .before .before .before .before .before .before .before in
-    let s = start .args .scene in
-    let b = l .loop .b in
-    let run = c .before .before .before .steady-blocks in
-    let h : b < s .head .blocks = omega (arith, c .before .before .before .before .before .before .before .before .before .before .before .loop-test .taken, start .pre .0 .blocks .0) in
-    let ordered = c .before .before .before .before .before .before .before .before .before .before .on-start-processing .ensures in
-    let ask = run-asks s (recordings (start .args .samples .now) (start .args .visitor .now)) (start .pre .0) (start .pre .1 .0) b h (l .loop .inv .2) ordered (sym (c .before .before .before .before .before .before .before .before .before .is-steady .ensures) ∙ c .before .before .before .before .before .before .before .before .if1 .taken) in
-    let is = ordered ∙ ap (mixerOrdered s b) (l .loop .inv .2) in (
-      omega (arith, run .ensures .0, next-most s b h),
-      run .kept .1 .1 .1 .1 .1 .1 .1 .1 .0 ∙ l .loop .inv .1,
-      run-shows ask is (run .ensures .0) (run .ensures .1 .0),
-      run-written ask is (run .ensures .0) (start .args .output .now) (l .loop .inv .3) (run .ensures .1 .1),
-    )
+flatten-requires : tie.Need-flatten-requires
+flatten-requires c κs = (refl, (refl, refl))
 
--- ---- a block
+slice-aggregate-links-of : tie.Need-slice-aggregate-links-of
+slice-aggregate-links-of c = sym (ap length (c .before .flatten .ensures .0) ∙ places-length (c .before .before .before .before .before .chunk-of .result))
 
-mul-process-block : tie.Need-mul-process-block Inv-loop μ-loop
-mul-process-block c =
-    let start = c .before .before .before .before .before .before .before .before .before .before .before .before .before .before .before .before in
-    omega (arith, block-fits (start .args .scene) (start .pre .0) (c .before .before .before .before .before .loop .b) (omega (arith, c .before .before .before .before .loop-test .taken, start .pre .0 .blocks .0)))
+links-of-requires : tie.Need-links-of-requires
+links-of-requires c κs =
+    let start = c .before .before .before .before .before .before .before .before .before .before .before .before .before .before .before .before .before .before .before .before in
+    let few = chunk-fits (start .args .scene) (c .before .before .before .before .before .before .before .new .result) (start .pre .0) (start .args .scene .head .buffer) (c .before .before .before .before .before .chunk-of .ensures) in
+    let long = ap length (c .before .flatten .ensures .0) ∙ places-length (c .before .before .before .before .before .chunk-of .result) in
+    (omega (arith, few .0), omega (arith, few .0, long))
 
-sub-process-block : tie.Need-sub-process-block Inv-loop μ-loop
-sub-process-block c = search needs
+slice-aggregate-links-of-2 : tie.Need-slice-aggregate-links-of-2
+slice-aggregate-links-of-2 c = sym (ap length (c .before .before .before .flatten .ensures .0) ∙ places-length (c .before .before .before .before .before .before .before .chunk-of .result))
 
-part-process-block-start : tie.Need-part-process-block-start Inv-loop μ-loop
-part-process-block-start c = search needs
+links-of-requires-2 : tie.Need-links-of-requires-2
+links-of-requires-2 c κs =
+    let start = c .before .before .before .before .before .before .before .before .before .before .before .before .before .before .before .before .before .before .before .before .before .before in
+    let few = chunk-fits (start .args .scene) (c .before .before .before .before .before .before .before .before .before .new .result) (start .pre .0) (start .args .scene .head .buffer) (c .before .before .before .before .before .before .before .chunk-of .ensures) in
+    let long = ap length (c .before .before .before .flatten .ensures .0) ∙ places-length (c .before .before .before .before .before .before .before .chunk-of .result) in
+    (omega (arith, few .1), omega (arith, few .1, long))
 
-part-process-block-end : tie.Need-part-process-block-end Inv-loop μ-loop
-part-process-block-end c =
-    let start = c .before .before .before .before .before .before .before .before .before .before .before .before .before .before .before .before in
-    let s = start .args .scene in
-    let l = c .before .before .before .before .before in
-    le-trans (block-ends s (start .pre .0) (l .loop .b) (omega (arith, c .before .before .before .before .loop-test .taken, start .pre .0 .blocks .0))) (le-of-eq (sym (l .loop .inv .1 ∙ show-length s (start .pre .0) (start .pre .1 .1))))
+slice-aggregate-links-back : tie.Need-slice-aggregate-links-back
+slice-aggregate-links-back c = sym (ap length (c .before .before .before .before .before .flatten .ensures .0) ∙ places-length (c .before .before .before .before .before .before .before .before .before .chunk-of .result))
 
-process-block-requires : tie.Need-process-block-requires Inv-loop μ-loop
-process-block-requires c κs =
-    let start = c .before .before .before .before .before .before .before .before .before .before .before .before .before .before .before .before .before in
-    let s = start .args .scene in
-    let ok = start .pre .0 in
-    let l = c .before .before .before .before .before .before in
-    let b = l .loop .b in
-    let h : b < s .head .blocks = omega (arith, c .before .before .before .before .before .loop-test .taken, ok .blocks .0) in
-    let reached = mixer-reached s ok b (l .loop .inv .2) (c .before .before .before .before .on-start-processing .ensures) in
-    let long = le-trans (block-ends s ok b h) (le-of-eq (sym (l .loop .inv .1 ∙ show-length s ok (start .pre .1 .1)))) in
-    (c .before .before .before .before .before .before .before .before .before .before .before .before .before .gain-table .ensures, (ok, (start .pre .1 .0, ((b * chunkCount (s .head), reached, chunks-few s ok b h), length-part (b * width s) (width s) (l .loop .output) long))))
+links-back-requires : tie.Need-links-back-requires
+links-back-requires c κs =
+    let start = c .before .before .before .before .before .before .before .before .before .before .before .before .before .before .before .before .before .before .before .before .before .before .before .before in
+    let few = chunk-fits (start .args .scene) (c .before .before .before .before .before .before .before .before .before .before .before .new .result) (start .pre .0) (start .args .scene .head .buffer) (c .before .before .before .before .before .before .before .before .before .chunk-of .ensures) in
+    let long = ap length (c .before .before .before .before .before .flatten .ensures .0) ∙ places-length (c .before .before .before .before .before .before .before .before .before .chunk-of .result) in
+    (omega (arith, few .2), omega (arith, few .2, long))
 
-add-b : tie.Need-add-b Inv-loop μ-loop
-add-b c =
-    let l = c .before .before .before .before .before .before .before .before .before in
-    let start = l .before .before .before .before .before .before .before .before .before .before .before in
-    omega (arith, c .before .before .before .before .before .before .before .before .loop-test .taken, start .pre .0 .blocks .1)
+slice-aggregate-put-mixer : tie.Need-slice-aggregate-put-mixer
+slice-aggregate-put-mixer c = search needs
 
-loop-less-2 : tie.Need-loop-less-2 Inv-loop μ-loop
-loop-less-2 c =
-    let l = c .before .before .before .before .before .before .before .before .before in
-    let start = l .before .before .before .before .before .before .before .before .before .before .before in
-    omega (arith, c .before .before .before .before .before .before .before .before .loop-test .taken, start .pre .0 .blocks .0)
+slice-aggregate-put-mixer-2 : tie.Need-slice-aggregate-put-mixer-2
+slice-aggregate-put-mixer-2 c = search needs
 
-loop-again-2 : tie.Need-loop-again-2 Inv-loop μ-loop
-loop-again-2 c =
-    let l = c .before .before .before .before .before .before .before .before .before in
-    let start = l .before .before .before .before .before .before .before .before .before .before .before in
-    let s = start .args .scene in
-    let b = l .loop .b in
-    let done = c .before .before .process-block in
-    let ordered = c .before .before .before .before .before .before .before .on-start-processing .ensures in (
-      omega (arith, c .before .before .before .before .before .before .before .before .loop-test .taken, start .pre .0 .blocks .0),
-      same-len-mid (b * width s) (b * width s + width s - b * width s) (l .loop .output) (done .last .1 .1 .1 .1 .1 .0) (done .kept .1 .1 .1 .1 .1 .0) ∙ l .loop .inv .1,
-      mixer-turn s b (l .loop .inv .2) ordered (done .ensures .0),
-      show-turn s (recordings (start .args .samples .now) (start .args .visitor .now)) (start .pre .0) b (start .args .output .now) (l .loop .inv .2) ordered (l .loop .inv .3) (done .ensures .1),
-    )
+slice-aggregate-put-mixer-3 : tie.Need-slice-aggregate-put-mixer-3
+slice-aggregate-put-mixer-3 c = search needs
 
--- ---- the end
+slice-aggregate-put-mixer-4 : tie.Need-slice-aggregate-put-mixer-4
+slice-aggregate-put-mixer-4 c = search needs
 
-same-length : tie.Need-same-length Inv-loop μ-loop
+slice-aggregate-put-mixer-5 : tie.Need-slice-aggregate-put-mixer-5
+slice-aggregate-put-mixer-5 c = search needs
+
+put-mixer-requires : tie.Need-put-mixer-requires
+put-mixer-requires c κs =
+    let start = c .before .before .before .before .before .before .before .before .before .before .before .before .before .before .before .before .before .before .before .before .before .before .before .before .before .before .before .before .before .before .before in
+    let few = counts-fit (start .pre .0) (start .pre .1 .0) (c .before .before .before .before .before .before .before .before .before .before .before .before .before .before .before .before .before .before .new .ensures) (c .before .before .before .before .before .before .before .before .before .before .before .before .before .before .before .before .chunk-of .ensures) (c .before .before .before .before .before .before .before .before .before .before .before .before .flatten .ensures .0) (c .before .before .before .before .before .before .before .before .before .before .before .before .flatten .ensures .1 .0) (c .before .before .before .before .before .before .before .before .before .before .before .before .flatten .ensures .1 .1) in
+    (few .0, (few .1 .0, (few .1 .1, zeros-sized)))
+
+slice-aggregate-render-blocks : tie.Need-slice-aggregate-render-blocks
+slice-aggregate-render-blocks c = search needs
+
+slice-aggregate-render-blocks-2 : tie.Need-slice-aggregate-render-blocks-2
+slice-aggregate-render-blocks-2 c = search needs
+
+slice-aggregate-render-blocks-3 : tie.Need-slice-aggregate-render-blocks-3
+slice-aggregate-render-blocks-3 c = search needs
+
+slice-aggregate-render-blocks-4 : tie.Need-slice-aggregate-render-blocks-4
+slice-aggregate-render-blocks-4 c = search needs
+
+slice-aggregate-render-blocks-5 : tie.Need-slice-aggregate-render-blocks-5
+slice-aggregate-render-blocks-5 c = search needs
+
+render-blocks-requires : tie.Need-render-blocks-requires
+render-blocks-requires c κs =
+    let start = c .before .before .before .before .before .before .before .before .before .before .before .before .before .before .before .before .before .before .before .before .before .before .before .before .before .before .before .before .before .before .before .before .before .before .before .before .before .before .before .before .before .before .before .before .before .before .before .before .before .before .before .before .before .before .before in
+    let begins = laid-begins (start .pre .0) (start .pre .1 .0) (c .before .before .before .before .before .before .before .before .before .before .before .before .before .before .before .before .before .before .before .before .before .before .before .before .before .before .before .before .before .before .before .before .before .before .before .before .before .before .before .before .before .before .new .ensures) (c .before .before .before .before .before .before .before .before .before .before .before .before .before .before .before .before .before .before .before .before .before .before .before .before .before .before .before .before .before .before .before .before .before .before .before .before .before .before .before .before .chunk-of .ensures) (c .before .before .before .before .before .before .before .before .before .before .before .before .before .before .before .before .before .before .before .before .before .before .before .before .before .before .before .before .before .before .before .before .before .before .before .before .flatten .ensures .0) (c .before .before .before .before .before .before .before .before .before .before .before .before .before .before .before .before .before .before .before .before .before .before .before .before .before .before .before .before .before .before .before .before .before .before .before .before .flatten .ensures .1 .0) (c .before .before .before .before .before .before .before .before .before .before .before .before .before .before .before .before .before .before .before .before .before .before .before .before .before .before .before .before .before .before .before .before .before .before .before .before .flatten .ensures .1 .1) zeros refl zeros-sized (c .before .before .before .before .before .before .before .before .before .before .before .before .before .before .before .before .before .before .before .before .before .before .before .put-mixer .ensures) (c .before .before .before .before .before .before .before .before .before .before .before .before .before .before .before .before .before .before .before .before .before .before .before .before .before .before .before .before .before .before .before .before .before .before .links-of .ensures) (c .before .before .before .before .before .before .before .before .before .before .before .before .before .before .before .before .before .before .before .before .before .before .before .before .before .before .before .before .before .before .before .before .links-of2 .ensures) (c .before .before .before .before .before .before .before .before .before .before .before .before .before .before .before .before .before .before .before .before .before .before .before .before .before .before .before .before .before .before .links-back .ensures) in
+    let last = c .before .before .before .before .before .before .before .before .before .before .before .before .before .before .before .before .before .before .before .before .before .before .before .before .before .before .before .before .before .before .before .before .before .before .before .before .before .before .before .before .before .before .before .before .before .before .before .parts-of2 .ensures ∙ ap partsOf (c .before .before .before .before .before .before .before .before .before .before .before .before .before .before .before .before .before .before .before .before .before .before .before .before .before .before .before .before .before .before .before .before .before .before .before .before .before .before .before .before .before .before .before .before .before .before .before .before .last-frames .ensures) in
+    let rest = rest-is (start .args .scene) (start .pre .0) (c .before .before .before .before .before .before .before .before .before .before .before .before .before .before .before .before .before .before .before .before .before .before .before .before .before .before .before .before .before .before .before .before .before .before .before .before .before .before .before .before .before .before .before .before .before .still-head .ensures) (c .before .before .before .before .before .before .before .before .before .before .before .before .before .before .before .before .before .before .before .before .before .before .before .before .before .before .before .before .before .before .before .before .before .before .before .before .before .before .before .before .before .before .before .before .last-frames2 .ensures) (c .before .before .before .before .before .before .before .before .before .before .before .before .before .before .before .before .before .before .before .before .before .before .before .before .before .before .before .before .before .before .before .before .before .before .before .before .before .before .before .before .before .before .before .parts-of4 .ensures) in
+    (c .before .before .before .before .before .before .before .before .before .before .before .before .before .before .before .before .before .before .before .before .before .before .before .before .before .before .before .before .before .before .before .before .before .before .before .before .before .before .before .before .before .before .before .before .before .before .before .before .before .before .before .gain-table .ensures, (start .pre .0, (start .pre .1 .0, (begins, (c .before .before .before .before .before .before .before .before .before .before .before .before .before .before .before .before .before .before .before .before .before .before .before .before .before .before .before .before .before .before .before .before .before .before .before .before .before .before .before .before .before .before .before .before .before .before .before .before .before .parts-of .ensures, (last, (c .before .before .before .before .before .before .before .before .before .before .before .before .before .before .before .before .before .before .before .before .before .before .before .before .before .before .before .before .before .before .before .before .before .before .before .before .before .before .before .before .before .before .before .before .before .before .parts-of3 .ensures, (rest, start .pre .1 .1))))))))
+
+same-length : tie.Need-same-length
 same-length c = search needs
 
-returns : tie.Need-returns Inv-loop μ-loop
-returns c =
-    let l = c .before in
-    let start = l .before .before .before .before .before .before .before .before .before .before .before in
-    let s = start .args .scene in
-    let ok = start .pre .0 in
-    show-end s (recordings (start .args .samples .now) (start .args .visitor .now)) ok (start .args .output .now) (omega (arith, c .loop-test .left, l .loop .inv .0)) (show-length s ok (start .pre .1 .1)) (l .loop .inv .3)
+returns : tie.Need-returns
+returns c = c .before .before .before .before .before .before .before .render-blocks .ensures
 
 pub render-scene-spec : {M : Type 1} → statement M
 render-scene-spec =
     tie.close
     (tie.spec
-    Inv-loop
-    μ-loop
     gain-table-requires
-    mul-width
     parts-of-requires
     last-frames-requires
     parts-of-requires-2
+    parts-of-requires-3
+    still-head-requires
+    last-frames-requires-2
+    parts-of-requires-4
     new-requires
-    loop-holds
-    mul-from
-    add-to
-    on-start-processing-requires
-    is-steady-requires
-    steady-blocks-requires
-    loop-less
-    loop-again
-    mul-process-block
-    sub-process-block
-    part-process-block-start
-    part-process-block-end
-    process-block-requires
-    add-b
-    loop-less-2
-    loop-again-2
+    chunk-of-requires
+    flatten-requires
+    slice-aggregate-links-of
+    links-of-requires
+    slice-aggregate-links-of-2
+    links-of-requires-2
+    slice-aggregate-links-back
+    links-back-requires
+    slice-aggregate-put-mixer
+    slice-aggregate-put-mixer-2
+    slice-aggregate-put-mixer-3
+    slice-aggregate-put-mixer-4
+    slice-aggregate-put-mixer-5
+    put-mixer-requires
+    slice-aggregate-render-blocks
+    slice-aggregate-render-blocks-2
+    slice-aggregate-render-blocks-3
+    slice-aggregate-render-blocks-4
+    slice-aggregate-render-blocks-5
+    render-blocks-requires
     same-length
     returns)

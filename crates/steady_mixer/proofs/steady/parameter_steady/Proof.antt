@@ -1,17 +1,14 @@
 -- `parameter_steady` meets its contract: both values are numbers, and their bits are compared. Assumes nothing.
 use mathlib.Core.Path.{refl}
-use mathlib.Core.Bool.{not}
-use lib.Dec.{T}
-use lib.Ieee.{Float, isNan}
-use Rattle.laws.specs.DecibelRange.{ValueRange}
-use Rattle.laws.proofs.laws.DecibelRange.{value→read, read-not-nan}
-use Rattle.steady_mixer.proofs.laws.Tests.{and-no, and-yes}
+use Rattle.parameter_store.specs.Store.{numbers}
+use Rattle.steady_mixer.specs.Steady.{sameLevel}
+use Rattle.steady_mixer.proofs.laws.Steps.{value-number, parameter-moves, parameter-compared}
+use borrow.Author.Needs.{needs}
 use Rattle.steady_mixer.proofs.steady.parameter_steady.Statement.{statement}
-use Rattle.steady_mixer.specs.Steady.{sameLevel, parameterSteady}
 use Rattle.steady_mixer.proofs.steady.parameter_steady.Tie as tie
 
-value-number : (x : Float) → ValueRange x → T (not (isNan x))
-value-number x h = read-not-nan x (value→read x h)
+stagnant-at-requires : tie.Need-stagnant-at-requires
+stagnant-at-requires c κs = search needs
 
 float-to-bits-result : tie.Need-float-to-bits-result
 float-to-bits-result c = search value-number
@@ -20,13 +17,19 @@ float-to-bits-result-2 : tie.Need-float-to-bits-result-2
 float-to-bits-result-2 c = search value-number
 
 returns : tie.Need-returns
-unfolding parameterSteady sameLevel
-returns c = and-yes (c .before .before .before .before .if1 .taken) refl
+unfolding sameLevel
+returns c =
+    let a = c .before .before .before .before .before .before .before .args in
+    λ counts shorts values times.
+    parameter-compared (numbers (a .kinds .now) counts shorts values times) (a .p) (a .level) (c .before .before .before .before .before .stagnant-at .ensures counts shorts values times) (c .before .before .before .before .if1 .taken) refl
 
 returns-2 : tie.Need-returns-2
-unfolding parameterSteady
-returns-2 c = and-no _ (c .if1 .left)
+returns-2 c =
+    let a = c .before .before .before .args in
+    λ counts shorts values times.
+    parameter-moves (numbers (a .kinds .now) counts shorts values times) (a .p) (a .level) (c .before .stagnant-at .ensures counts shorts values times) (c .if1 .left)
 
 pub parameter-steady-spec : {M : Type 1} → statement M
 parameter-steady-spec =
-    tie.close (tie.spec float-to-bits-result float-to-bits-result-2 returns returns-2)
+    tie.close
+    (tie.spec stagnant-at-requires float-to-bits-result float-to-bits-result-2 returns returns-2)

@@ -1,56 +1,97 @@
 -- `reached_steady` meets its contract: test by test, in the definition's order. Assumes nothing.
-use mathlib.Core.Path.{ap}
-use mathlib.Core.Bool.{Bool·beq}
+use native.Mathlib.Omega.{arith}
+use Rattle.parameter_store.specs.Store.{numbers}
+use Rattle.moving_mixer.specs.State.{arrays, fadeNumber, volumePlace, fadePlace}
+use Rattle.steady_mixer.proofs.laws.Steps.{level-in, with-level, reached-by-state, reached-by-mark, reached-by-volume, reached-by-fade}
 use borrow.Author.Needs.{needs}
-use Rattle.steady_mixer.proofs.laws.Tests.{stops, goes-on}
 use Rattle.steady_mixer.proofs.steady.reached_steady.Statement.{statement}
-use Rattle.steady_mixer.specs.Steady.{reachedSteady}
 use Rattle.steady_mixer.proofs.steady.reached_steady.Tie as tie
 
 state-steady-requires : tie.Need-state-steady-requires
 state-steady-requires c κs = search needs
 
 returns : tie.Need-returns
-unfolding reachedSteady
-returns c = stops _ (c .before .state-steady .ensures) (c .if1 .taken)
+returns c =
+    let a = c .before .before .before .args in
+    λ counts shorts values times amplitudes.
+    reached-by-state (arrays (a .places .now) (a .levels .now) amplitudes (numbers (a .kinds .now) counts shorts values times)) (a .j) (c .before .state-steady .ensures counts shorts values times) (c .if1 .taken)
 
-is-advancing-requires : tie.Need-is-advancing-requires
-is-advancing-requires c κs = search needs
+add-live : tie.Need-add-live
+add-live c = search needs
+
+mul-live : tie.Need-mul-live
+mul-live c = search needs
+
+element-copy-out-live : tie.Need-element-copy-out-live
+element-copy-out-live c = search needs
+
+advances-at-requires : tie.Need-advances-at-requires
+advances-at-requires c κs = search needs
 
 returns-2 : tie.Need-returns-2
-unfolding reachedSteady
 returns-2 c =
-    let advances = c .before .before in
-    let state = advances .before in
-    goes-on (state .before .state-steady .ensures) (state .if1 .left) (stops _ (ap (Bool·beq (state .before .before .before .args .track .live)) (advances .is-advancing .ensures)) (c .if2 .taken))
+    let a = c .before .before .before .before .before .before .args in
+    λ counts shorts values times amplitudes.
+    reached-by-mark (arrays (a .places .now) (a .levels .now) amplitudes (numbers (a .kinds .now) counts shorts values times)) (a .j) (c .before .before .before .before .state-steady .ensures counts shorts values times) (c .before .before .before .if1 .left) (c .before .advances-at .ensures counts shorts values times) (c .if2 .taken)
+
+mul-level-at : tie.Need-mul-level-at
+mul-level-at c = search needs
+
+level-at-requires : tie.Need-level-at-requires
+level-at-requires c κs = search needs
 
 parameter-steady-requires : tie.Need-parameter-steady-requires
-parameter-steady-requires c κs = search needs
+parameter-steady-requires c κs =
+    let start = c .before .before .before .before .before .before .before in
+    (omega (arith, start .pre .0), (start .pre .1 .0, level-in (start .args .levels .now) (volumePlace (start .args .j)) (c .level-at .ensures) (start .pre .1 .1 .0)))
 
 returns-3 : tie.Need-returns-3
-unfolding reachedSteady
 returns-3 c =
-    let flag = c .before .before .before in
-    let advances = flag .before .before in
-    let state = advances .before in
-    goes-on (state .before .state-steady .ensures) (state .if1 .left)
-    (goes-on (ap (Bool·beq (state .before .before .before .args .track .live)) (advances .is-advancing .ensures)) (flag .if2 .left) (stops _ (c .before .parameter-steady .ensures) (c .if3 .taken)))
+    let a = c .before .before .before .before .before .before .before .before .before .args in
+    λ counts shorts values times amplitudes.
+    reached-by-volume (arrays (a .places .now) (a .levels .now) amplitudes (numbers (a .kinds .now) counts shorts values times)) (a .j) (c .before .before .before .before .before .before .before .state-steady .ensures counts shorts values times) (c .before .before .before .before .before .before .if1 .left) (c .before .before .before .before .advances-at .ensures counts shorts values times) (c .before .before .before .if2 .left) (with-level (numbers (a .kinds .now) counts shorts values times) (a .j) (c .before .parameter-steady .ensures counts shorts values times) (c .before .before .level-at .ensures)) (c .if3 .taken)
+
+mul-level-at-2 : tie.Need-mul-level-at-2
+mul-level-at-2 c = search needs
+
+add-level-at : tie.Need-add-level-at
+add-level-at c = search needs
+
+level-at-requires-2 : tie.Need-level-at-requires-2
+level-at-requires-2 c κs = search needs
+
+add-parameter-steady : tie.Need-add-parameter-steady
+add-parameter-steady c = search needs
 
 parameter-steady-requires-2 : tie.Need-parameter-steady-requires-2
-parameter-steady-requires-2 c κs = search needs
+parameter-steady-requires-2 c κs =
+    let start = c .before .before .before .before .before .before .before .before .before .before in
+    (omega (arith, start .pre .0), (start .pre .1 .0, level-in (start .args .levels .now) (fadePlace (start .args .j)) (c .level-at2 .ensures) (start .pre .1 .1 .1)))
 
 returns-4 : tie.Need-returns-4
-unfolding reachedSteady
 returns-4 c =
-    let volume = c .before .before in
-    let flag = volume .before .before .before in
-    let advances = flag .before .before in
-    let state = advances .before in
-    goes-on (state .before .state-steady .ensures) (state .if1 .left)
-    (goes-on (ap (Bool·beq (state .before .before .before .args .track .live)) (advances .is-advancing .ensures)) (flag .if2 .left)
-    (goes-on (volume .before .parameter-steady .ensures) (volume .if3 .left) (c .parameter-steady2 .ensures)))
+    let a = c .before .before .before .before .before .before .before .before .before .before .before .args in
+    λ counts shorts values times amplitudes.
+    reached-by-fade (arrays (a .places .now) (a .levels .now) amplitudes (numbers (a .kinds .now) counts shorts values times)) (a .j) (c .before .before .before .before .before .before .before .before .before .state-steady .ensures counts shorts values times) (c .before .before .before .before .before .before .before .before .if1 .left) (c .before .before .before .before .before .before .advances-at .ensures counts shorts values times) (c .before .before .before .before .before .if2 .left) (with-level (numbers (a .kinds .now) counts shorts values times) (a .j) (c .before .before .before .parameter-steady .ensures counts shorts values times) (c .before .before .before .before .level-at .ensures)) (c .before .before .if3 .left) (with-level (numbers (a .kinds .now) counts shorts values times) (fadeNumber (a .j)) (c .parameter-steady2 .ensures counts shorts values times) (c .before .level-at2 .ensures))
 
 pub reached-steady-spec : {M : Type 1} → statement M
 reached-steady-spec =
     tie.close
-    (tie.spec state-steady-requires returns is-advancing-requires returns-2 parameter-steady-requires returns-3 parameter-steady-requires-2 returns-4)
+    (tie.spec
+    state-steady-requires
+    returns
+    add-live
+    mul-live
+    element-copy-out-live
+    advances-at-requires
+    returns-2
+    mul-level-at
+    level-at-requires
+    parameter-steady-requires
+    returns-3
+    mul-level-at-2
+    add-level-at
+    level-at-requires-2
+    add-parameter-steady
+    parameter-steady-requires-2
+    returns-4)

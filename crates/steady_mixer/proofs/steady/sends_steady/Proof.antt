@@ -1,37 +1,61 @@
--- `sends_steady` meets its contract. The invariant: the send tracks below i stand still. Assumes nothing.
+-- `sends_steady` meets its contract. The invariant: the lines below i stand still. Assumes nothing.
 use mathlib.Core.Path.{_≡_}
 use mathlib.Core.Bool.{true}
-use Prim.Native.Nat.{_-_, _≤_, zero-le}
+use mathlib.Core.List.{List}
+use Prim.Native.Nat.{ℕ, _+_, _-_, _*_, _≤_, zero-le}
+use native.Mathlib.Omega.{arith}
 use native.Mathlib.Numerals.{add-one-le}
+use lib.Ieee.{Float}
 use borrow.Author.Needs.{needs}
+use Rattle.parameter_store.specs.Store.{numbers}
 use Rattle.scene_tables.specs.Bytes.{every}
 use Rattle.scene_tables.proofs.laws.Every.{every-none, every-done}
 use Rattle.steady_mixer.proofs.laws.Tests.{line-fails, line-passes}
+use Rattle.chunk.specs.Flat.{levelSize, sendLevelsFrom, sendFrom}
+use Rattle.moving_mixer.specs.State.{arrays, sendNumber, mixerSend}
+use Rattle.steady_mixer.specs.Arrays.{sendRests}
+use Rattle.steady_mixer.proofs.laws.Steps.{level-in, with-level}
 use Rattle.steady_mixer.proofs.steady.sends_steady.Statement.{statement}
-use Rattle.steady_mixer.specs.Steady.{steadySend}
 use Rattle.steady_mixer.proofs.steady.sends_steady.Tie as tie
 
 abbrev Inv-loop : tie.InvT-loop
-Inv-loop count sends i₀ i = (i ≤ count) × (every i (steadySend sends) ≡ true)
+Inv-loop places levels kinds count i₀ i =
+    (i ≤ count) × ((counts shorts : List ℕ) (values times amplitudes : List Float) → every i (sendRests (arrays places levels amplitudes (numbers kinds counts shorts values times))) ≡ true)
 
 abbrev μ-loop : tie.MeasureT-loop
-μ-loop count sends i₀ i = count - i
+μ-loop places levels kinds count i₀ i = count - i
+
+element-copy-out-count : tie.Need-element-copy-out-count Inv-loop μ-loop
+element-copy-out-count c = search needs
 
 loop-holds : tie.Need-loop-holds Inv-loop μ-loop
-loop-holds c = (zero-le, every-none _)
+loop-holds c = (zero-le, λ counts shorts values times amplitudes. every-none _)
 
-mul-send : tie.Need-mul-send Inv-loop μ-loop
-mul-send c = search needs
+mul-level-at : tie.Need-mul-level-at Inv-loop μ-loop
+mul-level-at c = search needs
 
-array-copy-out-send : tie.Need-array-copy-out-send Inv-loop μ-loop
-array-copy-out-send c = search needs
+add-level-at : tie.Need-add-level-at Inv-loop μ-loop
+add-level-at c = search needs
+
+level-at-requires : tie.Need-level-at-requires Inv-loop μ-loop
+level-at-requires c κs = search needs
+
+add-parameter-steady : tie.Need-add-parameter-steady Inv-loop μ-loop
+add-parameter-steady c = search needs
 
 parameter-steady-requires : tie.Need-parameter-steady-requires Inv-loop μ-loop
-parameter-steady-requires c κs = c .before .before .before .pre .1 (c .before .before .loop .i) (c .before .loop-test .taken)
+parameter-steady-requires c κs =
+    let start = c .before .before .before .before .before in
+    let i = c .before .before .loop .i in
+    let h = c .before .loop-test .taken in
+    (omega (arith, h, start .pre .0), (start .pre .1 .0, level-in (start .args .levels .now) (sendLevelsFrom + levelSize * i) (c .level-at .ensures) (start .pre .1 .1 i h)))
 
 returns : tie.Need-returns Inv-loop μ-loop
-unfolding steadySend
-returns c = line-fails (steadySend (c .before .before .before .before .before .args .t2)) (c .before .parameter-steady .ensures) (c .before .before .before .loop-test .taken) (c .if1 .taken)
+unfolding sendRests mixerSend sendFrom
+returns c =
+    let a = c .before .before .before .before .before .before .before .args in
+    λ counts shorts values times amplitudes.
+    line-fails (sendRests (arrays (a .places .now) (a .levels .now) amplitudes (numbers (a .kinds .now) counts shorts values times))) (with-level (numbers (a .kinds .now) counts shorts values times) (sendNumber (c .before .before .before .before .loop .i)) (c .before .parameter-steady .ensures counts shorts values times) (c .before .before .level-at .ensures)) (c .before .before .before .loop-test .taken) (c .if1 .taken)
 
 add-i : tie.Need-add-i Inv-loop μ-loop
 add-i c = search needs
@@ -40,13 +64,32 @@ loop-less : tie.Need-loop-less Inv-loop μ-loop
 loop-less c = search needs
 
 loop-again : tie.Need-loop-again Inv-loop μ-loop
-unfolding steadySend
-loop-again c = (add-one-le (c .before .before .before .loop-test .taken), line-passes (steadySend (c .before .before .before .before .before .args .t2)) (c .before .parameter-steady .ensures) (c .if1 .left) (c .before .before .before .before .loop .inv .1))
+unfolding sendRests mixerSend sendFrom
+loop-again c =
+    let a = c .before .before .before .before .before .before .before .args in
+    let l = c .before .before .before .before .loop in
+    (add-one-le (c .before .before .before .loop-test .taken), λ counts shorts values times amplitudes. line-passes (sendRests (arrays (a .places .now) (a .levels .now) amplitudes (numbers (a .kinds .now) counts shorts values times))) (with-level (numbers (a .kinds .now) counts shorts values times) (sendNumber (c .before .before .before .before .loop .i)) (c .before .parameter-steady .ensures counts shorts values times) (c .before .before .level-at .ensures)) (c .if1 .left) (l .inv .1 counts shorts values times amplitudes))
 
 returns-2 : tie.Need-returns-2 Inv-loop μ-loop
-returns-2 c = every-done _ _ _ (c .loop-test .left) (c .before .loop .inv .0) (c .before .loop .inv .1)
+returns-2 c =
+    let l = c .before .loop in
+    λ counts shorts values times amplitudes. every-done _ _ _ (c .loop-test .left) (l .inv .0) (l .inv .1 counts shorts values times amplitudes)
 
 pub sends-steady-spec : {M : Type 1} → statement M
 sends-steady-spec =
     tie.close
-    (tie.spec Inv-loop μ-loop loop-holds mul-send array-copy-out-send parameter-steady-requires returns add-i loop-less loop-again returns-2)
+    (tie.spec
+    Inv-loop
+    μ-loop
+    element-copy-out-count
+    loop-holds
+    mul-level-at
+    add-level-at
+    level-at-requires
+    add-parameter-steady
+    parameter-steady-requires
+    returns
+    add-i
+    loop-less
+    loop-again
+    returns-2)

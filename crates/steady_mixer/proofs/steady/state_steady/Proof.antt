@@ -1,60 +1,57 @@
--- `state_steady` meets its contract: each arm is the definition's. Assumes nothing.
-use mathlib.Core.Path.{sym, ap}
+-- `state_steady` meets its contract: four kinds move, all others rest. Assumes nothing.
+use Prim.Native.Nat.{_+_}
+use borrow.Author.Tests.{ne-eqb}
+use lib.ListN.{getD}
+use Rattle.parameter_store.specs.Store.{numbers, playbacksFrom}
+use Rattle.steady_mixer.proofs.laws.Steps.{pausing-moves, waiting-moves, resuming-moves, stopping-moves, others-rest}
 use borrow.Author.Needs.{needs}
 use Rattle.steady_mixer.proofs.steady.state_steady.Statement.{statement}
-use Rattle.steady_mixer.specs.Steady.{stateSteady}
 use Rattle.steady_mixer.proofs.steady.state_steady.Tie as tie
 
-enum-told : tie.Need-enum-told
-enum-told c = search needs
+add-kind : tie.Need-add-kind
+add-kind c = search needs
 
-enum-told-2 : tie.Need-enum-told-2
-enum-told-2 c = search needs
+mul-kind : tie.Need-mul-kind
+mul-kind c = search needs
 
-enum-told-3 : tie.Need-enum-told-3
-enum-told-3 c = search needs
-
-enum-told-4 : tie.Need-enum-told-4
-enum-told-4 c = search needs
-
-enum-told-5 : tie.Need-enum-told-5
-enum-told-5 c = search needs
-
-enum-told-6 : tie.Need-enum-told-6
-enum-told-6 c = search needs
-
-enum-told-7 : tie.Need-enum-told-7
-enum-told-7 c = search needs
+shared-slice-read-kind : tie.Need-shared-slice-read-kind
+shared-slice-read-kind c = search needs
 
 returns : tie.Need-returns
-unfolding stateSteady
-returns c = ap stateSteady (sym (c .enum-told .given .1))
+returns c =
+    let a = c .before .before .args in
+    λ counts shorts values times. pausing-moves (numbers (a .kinds .now) counts shorts values times) (a .j) (c .if1 .taken)
 
 returns-2 : tie.Need-returns-2
-unfolding stateSteady
-returns-2 c = ap stateSteady (sym (c .enum-told2 .given .1))
+returns-2 c =
+    let a = c .before .before .before .args in
+    λ counts shorts values times. waiting-moves (numbers (a .kinds .now) counts shorts values times) (a .j) (c .if2 .taken)
 
 returns-3 : tie.Need-returns-3
-unfolding stateSteady
-returns-3 c = ap stateSteady (sym (c .enum-told3 .given .1))
+returns-3 c =
+    let a = c .before .before .before .before .args in
+    λ counts shorts values times. resuming-moves (numbers (a .kinds .now) counts shorts values times) (a .j) (c .if3 .taken)
 
 returns-4 : tie.Need-returns-4
-unfolding stateSteady
-returns-4 c = ap stateSteady (sym (c .enum-told4 .given .1))
+returns-4 c =
+    let a = c .before .before .before .before .before .args in
+    λ counts shorts values times. stopping-moves (numbers (a .kinds .now) counts shorts values times) (a .j) (c .if4 .taken)
 
 returns-5 : tie.Need-returns-5
-unfolding stateSteady
-returns-5 c = ap stateSteady (sym (c .enum-told5 .given .1))
-
-returns-6 : tie.Need-returns-6
-unfolding stateSteady
-returns-6 c = ap stateSteady (sym (c .enum-told6 .given .1))
-
-returns-7 : tie.Need-returns-7
-unfolding stateSteady
-returns-7 c = ap stateSteady (sym (c .enum-told7 .given .1))
+returns-5 c =
+    let a = c .before .before .before .before .before .args in
+    λ counts shorts values times.
+    others-rest (numbers (a .kinds .now) counts shorts values times) (a .j) (ne-eqb (getD (a .kinds .now) (playbacksFrom + a .j) 0) 1 (c .before .before .before .if1 .left)) (ne-eqb (getD (a .kinds .now) (playbacksFrom + a .j) 0) 3 (c .before .before .if2 .left)) (ne-eqb (getD (a .kinds .now) (playbacksFrom + a .j) 0) 4 (c .before .if3 .left)) (ne-eqb (getD (a .kinds .now) (playbacksFrom + a .j) 0) 5 (c .if4 .left))
 
 pub state-steady-spec : {M : Type 1} → statement M
 state-steady-spec =
     tie.close
-    (tie.spec enum-told enum-told-2 enum-told-3 enum-told-4 enum-told-5 enum-told-6 enum-told-7 returns returns-2 returns-3 returns-4 returns-5 returns-6 returns-7)
+    (tie.spec
+    add-kind
+    mul-kind
+    shared-slice-read-kind
+    returns
+    returns-2
+    returns-3
+    returns-4
+    returns-5)

@@ -1,31 +1,65 @@
 -- `track_steady` meets its contract. Assumes nothing.
-use mathlib.Core.Bool.{not, Bool·beq}
-use mathlib.Core.Path.{refl, sym, _∙_}
+use Rattle.parameter_store.specs.Store.{numbers}
+use Rattle.moving_mixer.specs.State.{arrays}
+use Rattle.steady_mixer.proofs.laws.Steps.{track-differs, track-reached, track-below}
 use borrow.Author.Needs.{needs}
-use Rattle.laws.proofs.laws.Choice.{cond-true, cond-false}
-use Rattle.steady_mixer.proofs.laws.Tests.{stops, goes-on}
 use Rattle.steady_mixer.proofs.steady.track_steady.Statement.{statement}
-use Rattle.steady_mixer.specs.Steady.{steadyWhere, reachedSteady}
 use Rattle.steady_mixer.proofs.steady.track_steady.Tie as tie
 
+mul-parent : tie.Need-mul-parent
+mul-parent c = search needs
+
+element-copy-out-parent : tie.Need-element-copy-out-parent
+element-copy-out-parent c = search needs
+
+live-below-requires : tie.Need-live-below-requires
+live-below-requires c κs = search needs
+
+reached-at-requires : tie.Need-reached-at-requires
+reached-at-requires c κs = search needs
+
 returns : tie.Need-returns
-unfolding steadyWhere
-returns c = stops {a = Bool·beq (c .before .before .args .track .reached) (c .before .before .args .reached)} _ refl (c .if1 .taken)
+returns c =
+    let a = c .before .before .before .before .before .args in
+    λ counts shorts values times amplitudes.
+    track-differs (arrays (a .places .now) (a .levels .now) amplitudes (numbers (a .kinds .now) counts shorts values times)) (a .j) (c .before .reached-at .ensures counts shorts values times) (c .before .before .live-below .ensures) (c .if1 .taken)
 
 reached-steady-requires : tie.Need-reached-steady-requires
 reached-steady-requires c κs = search needs
 
 returns-2 : tie.Need-returns-2
-unfolding steadyWhere
 returns-2 c =
-    let args = c .before .before .before .before .args in
-    goes-on {a = Bool·beq (args .track .reached) (args .reached)} refl (c .before .before .if1 .left) (c .reached-steady .ensures ∙ sym (cond-true _ _ (not (args .track .live)) (c .before .if2 .taken)))
+    let a = c .before .before .before .before .before .before .before .args in
+    λ counts shorts values times amplitudes.
+    track-reached (arrays (a .places .now) (a .levels .now) amplitudes (numbers (a .kinds .now) counts shorts values times)) (a .j) (c .before .before .before .reached-at .ensures counts shorts values times) (c .before .before .before .before .live-below .ensures) (c .before .before .if1 .left) (c .before .if2 .taken) (c .reached-steady .ensures counts shorts values times amplitudes)
+
+add-live : tie.Need-add-live
+add-live c = search needs
+
+mul-live : tie.Need-mul-live
+mul-live c = search needs
+
+element-copy-out-live : tie.Need-element-copy-out-live
+element-copy-out-live c = search needs
 
 returns-3 : tie.Need-returns-3
-unfolding steadyWhere
 returns-3 c =
-    let args = c .before .before .before .before .args in
-    goes-on {a = Bool·beq (args .track .reached) (args .reached)} refl (c .before .before .if1 .left) (sym (cond-false _ (reachedSteady (args .track)) _ (c .before .if2 .left)))
+    let a = c .before .before .before .before .before .before .before .args in
+    λ counts shorts values times amplitudes.
+    track-below (arrays (a .places .now) (a .levels .now) amplitudes (numbers (a .kinds .now) counts shorts values times)) (a .j) (c .before .before .before .reached-at .ensures counts shorts values times) (c .before .before .before .before .live-below .ensures) (c .before .before .if1 .left) (c .before .if2 .left)
 
 pub track-steady-spec : {M : Type 1} → statement M
-track-steady-spec = tie.close (tie.spec returns reached-steady-requires returns-2 returns-3)
+track-steady-spec =
+    tie.close
+    (tie.spec
+    mul-parent
+    element-copy-out-parent
+    live-below-requires
+    reached-at-requires
+    returns
+    reached-steady-requires
+    returns-2
+    add-live
+    mul-live
+    element-copy-out-live
+    returns-3)

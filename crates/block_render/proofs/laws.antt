@@ -1,0 +1,14 @@
+pub mod Advance
+pub mod Stands
+pub mod Linked
+pub mod Tables
+pub mod Kept
+pub mod Over
+pub mod Lines
+pub mod Chunk
+pub mod Updated
+pub mod Block
+pub mod Joined
+pub mod Mixed
+pub mod Turn
+pub mod Cut

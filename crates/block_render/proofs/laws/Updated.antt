@@ -1,0 +1,129 @@
+-- Moving the arrays moves the mixer that they stand for; where the mixer stands still they need not move. Assumes nothing.
+use mathlib.Core.Path.{_≡_, refl, sym, ap, _∙_}
+use mathlib.Core.Bool.{Bool, true, false, cond}
+use mathlib.Core.List.{List}
+use Prim.Native.Nat.{ℕ, _≤_, _<_}
+use native.Mathlib.Nat.{le-trans, le-of-eq}
+use native.Mathlib.Omega.{arith}
+use lib.ListN.{length, getD}
+use lib.Ieee.{Float, nan}
+use Rattle.limits.specs.Limits.{trackPlaces, sendLines, routeLines}
+use Rattle.decibels.specs.Decibels.{amplitude}
+use Rattle.clock.specs.declared.when_to_start.Clocks.{Clocks}
+use Rattle.clock.specs.WhenToStart.{clocksUpdated}
+use Rattle.chunk.specs.declared.chunk.Level.{Level}
+use Rattle.chunk.specs.Flat.{trackCountPlace, sendCountPlace, routeCountPlace, mainFrom}
+use Rattle.scene.specs.declared.scene.Scene.{Scene}
+use Rattle.accepted.specs.SceneOk.{SceneOk}
+use Rattle.mixer.specs.declared.mixer.Mixer.{Mixer}
+use Rattle.mixer.specs.Mixer.{mixerOf, mixerUpdate}
+use Rattle.renderer.specs.Renderer.{chunkFrames}
+use Rattle.renderer.proofs.laws.Renderer.{chunkSeconds}
+use Rattle.block_render.specs.Advance.{framed}
+use Rattle.parameter_store.specs.Store.{parameterFrom, routeLevel}
+use Rattle.steady_mixer.proofs.laws.MixerSteady.{mixerSteady, afterRun}
+use Rattle.steady_mixer.proofs.laws.Steady.{withClocks, still-update}
+use Rattle.moving_mixer.proofs.laws.Over.{mixerOver}
+use Rattle.moving_mixer.specs.State.{Arrays, ArraysSized, mainNumber, mixerRoute}
+use Rattle.moving_mixer.specs.Update.{tracksOn, routesOn, sendsOn, levelledOn, mixerOn}
+use Rattle.moving_mixer.proofs.laws.Tracks.{TracksKept, tracks-kept}
+use Rattle.moving_mixer.proofs.laws.Routes.{Heard, RoutesKept, routes-kept, routes-heard}
+use Rattle.moving_mixer.proofs.laws.Sends.{LevelledKept, SendsKept, levelled-kept, sends-kept}
+use Rattle.moving_mixer.proofs.laws.Mixer.{mixer-moved}
+use Rattle.block_render.specs.Block.{withPlaces}
+use Rattle.block_render.proofs.laws.Over.{base-long}
+use Rattle.block_render.proofs.laws.Chunk.{StandsFor, Updated, begun-agrees, begun-state, begun-sized, begun-amplitudes}
+
+-- where neither the amplitudes nor a route's values have changed
+heard-kept : (x y : Arrays) (r : ℕ) → y .amplitudes ≡ x .amplitudes → routeLevel (y .state) r ≡ routeLevel (x .state) r → Heard x r → Heard y r
+unfolding mixerRoute parameterFrom
+heard-kept x y r p q h = ap (λ (l : List Float). getD l r nan) p ∙ h ∙ ap (λ (l : Level). amplitude (l .now .0)) (sym q)
+
+-- ---- what moving keeps, stage by stage
+
+module _ (dt : Float) (clocks : Clocks) (a : Arrays) (sized : ArraysSized a) (tracks : getD (a .places) trackCountPlace 0 ≤ trackPlaces) (sends : getD (a .places) sendCountPlace 0 ≤ sendLines) (routes : getD (a .places) routeCountPlace 0 ≤ routeLines) where
+  abbrev a₁ : Arrays
+  a₁ = tracksOn dt clocks a
+
+  abbrev a₂ : Arrays
+  a₂ = routesOn dt clocks a₁
+
+  abbrev a₃ : Arrays
+  a₃ = sendsOn dt clocks a₂
+
+  abbrev a₄ : Arrays
+  a₄ = levelledOn dt clocks mainNumber mainFrom a₃
+
+  k₁ : TracksKept a a₁
+  k₁ = tracks-kept dt clocks a sized tracks
+
+  routes₁ : getD (a₁ .places) routeCountPlace 0 ≤ routeLines
+  routes₁ = le-trans (le-of-eq (k₁ .places routeCountPlace (λ j l e. omega arith))) routes
+
+  k₂ : RoutesKept a₁ a₂
+  k₂ = routes-kept dt clocks a₁ (k₁ .sized .state) routes₁
+
+  sized₂ : ArraysSized a₂
+  sized₂ = record { places = ap length (k₂ .places) ∙ k₁ .sized .places; levels = ap length (k₂ .levels) ∙ k₁ .sized .levels; state = k₂ .sized }
+
+  k₃ : SendsKept a₂ a₃
+  k₃ = sends-kept dt clocks a₂ sized₂ (le-trans (le-of-eq (ap (λ (l : List ℕ). getD l sendCountPlace 0) (k₂ .places) ∙ k₁ .places sendCountPlace (λ j l e. omega arith))) sends)
+
+  k₄ : LevelledKept mainNumber mainFrom a₃ a₄
+  k₄ = levelled-kept dt clocks mainNumber mainFrom a₃ (k₃ .sized) (omega arith)
+
+  on-sized : ArraysSized (mixerOn dt clocks a)
+  unfolding mixerOn
+  on-sized = k₄ .sized
+
+  module _ (room : length (a .amplitudes) ≡ routeLines) where
+    room₁ : length (a₁ .amplitudes) ≡ routeLines
+    room₁ = ap length (k₁ .amplitudes) ∙ room
+
+    on-long : length (mixerOn dt clocks a .amplitudes) ≡ routeLines
+    unfolding mixerOn
+    on-long = ap length (k₄ .amplitudes) ∙ ap length (k₃ .amplitudes) ∙ k₂ .long ∙ room₁
+
+    on-heard : (r : ℕ) → r < routeLines → Heard a r → Heard (mixerOn dt clocks a) r
+    unfolding mixerOn
+    on-heard r b h =
+        heard-kept a₃ a₄ r (k₄ .amplitudes) (k₄ .route r b)
+        (heard-kept a₂ a₃ r (k₃ .amplitudes) (k₃ .route r b) (routes-heard dt clocks a₁ (k₁ .sized .state) room₁ routes₁ r b (heard-kept a a₁ r (k₁ .amplitudes) (k₁ .route r b) h)))
+
+-- ---- a chunk
+
+module _ (s : Scene) (base m : Mixer) (c : ℕ) (a : Arrays) (l l' l'' : List ℕ) (ok : SceneOk s) (h : StandsFor s base m c a l l' l'') (k : ℕ) where
+  abbrev dt : Float
+  dt = chunkSeconds s k
+
+  abbrev clocks : Clocks
+  clocks = clocksUpdated (m .clocks) dt
+
+  abbrev begun : Arrays
+  begun = withPlaces (framed (chunkFrames (s .head) k) (a .places)) a
+
+  is-begun : m ≡ mixerOver (m .clocks) (m .played) begun base
+  is-begun = begun-state s base m c a l l' l'' ok h k
+
+  -- nothing but the clocks has moved
+  still-state : withClocks clocks m ≡ mixerOver clocks (m .played) begun base
+  unfolding withClocks afterRun mixerOver
+  still-state = ap (λ (x : Mixer). mixerOf clocks (x .«main_volume») (x .tracks) (x .sends) (x .routes) (m .played)) is-begun
+
+  pub updated : (still : Bool) → (still ≡ true → mixerSteady s m ≡ true) → Updated s base m dt (cond still begun (mixerOn dt clocks begun))
+  updated true quiet =
+      record {
+        sized = begun-sized s base m c a l l' l'' ok h k;
+        long = h .amplitudes;
+        state = still-update s m c dt ok (h .inside) (quiet refl) ∙ still-state;
+        amplitudes = begun-amplitudes s base m c a l l' l'' ok h k;
+      }
+  updated false quiet =
+      let sized = begun-sized s base m c a l l' l'' ok h k in
+      let g = begun-agrees s base m c a l l' l'' ok h k in
+      record {
+        sized = on-sized dt clocks begun sized (g .trackRoom) (g .sendRoom) (g .routeRoom);
+        long = on-long dt clocks begun sized (g .trackRoom) (g .sendRoom) (g .routeRoom) (h .amplitudes);
+        state = ap (mixerUpdate s dt) is-begun ∙ sym (mixer-moved dt clocks s begun sized g base (le-of-eq (sym (base-long m base a (h .state) ∙ h .inside .trackPlaces))) (m .clocks) (m .played) refl);
+        amplitudes = λ r b. on-heard dt clocks begun sized (g .trackRoom) (g .sendRoom) (g .routeRoom) (h .amplitudes) r (le-trans b (ok .routeCount)) (begun-amplitudes s base m c a l l' l'' ok h k r b);
+      }

@@ -1,0 +1,451 @@
+// A block of a scene, chunk by chunk. The mixer's state stands in lent arrays.
+ghost use mathlib.Core.Path.{_≡_};
+ghost use mathlib.Core.Bool.{true, cond};
+ghost use Prim.Native.Nat.{_-_, _*_, _≤_};
+ghost use lib.ListN.{length, getD};
+ghost use Rattle.recordings.specs.Recordings.{recordings};
+ghost use Rattle.limits.specs.Limits.{clockLines, sendLines, channelsMost, chunkFramesMost};
+ghost use Rattle.rounding.specs.Duration.{InAnHour};
+ghost use Rattle.gain_table.specs.GainTable.{IsGainTable};
+ghost use Rattle.clock.specs.WhenToStart.{clocksUpdated, CanMoveAll};
+ghost use Rattle.chunk.specs.Chunk.{ChunkOk, partsOf};
+ghost use Rattle.chunk.specs.Flat.{sendCountPlace, chunkFrom};
+ghost use Rattle.frame.specs.Layout.{scratch, withFrames};
+ghost use Rattle.track.specs.Mix.{mixedSet};
+ghost use Rattle.track.specs.Owners.{LinksOf};
+ghost use Rattle.track.specs.Send.{sendPlaces};
+ghost use Rattle.renderer.specs.Renderer.{chunkCount, chunkFrames};
+ghost use Rattle.parameter_store.specs.Store.{numbers};
+ghost use Rattle.moving_mixer.specs.State.{arrays, ArraysSized};
+ghost use Rattle.moving_mixer.specs.Update.{mixerOn, TracksThere, RoutesThere, RoutesHeard};
+ghost use Rattle.block_render.specs.Block.{mixedSamples, arraysChunk, arraysIn, arraysAfter, ChunkAsks, chunkClocks, chunkArrays, blockHeard, BlockAsks, blockHead, ClocksAsk};
+use crate::sounds::advance;
+use chunk::Amplitudes;
+use chunk::FRAMES;
+use chunk::Levels;
+use chunk::Places;
+use clock::Clocks;
+use gain_table::GainTable;
+use level_amplitudes::Parts;
+use limits::CHUNK_FRAMES;
+use links::Links;
+use scene::Head;
+use track::process_flat;
+
+// Where there is no clock nothing moves, and nothing is copied.
+fn update_clocks(clocks: Clocks, dt: f64) -> Clocks
+    requires { ⌜ CanMoveAll clocks dt ⌝ }
+    ensures { λ r. ⌜ r ≡ clocksUpdated clocks dt ⌝ }
+{
+    if clocks.count == 0 {
+        return clocks;
+    }
+    clocks.update(dt)
+}
+
+// What a chunk moves, where anything moves.
+fn move_state(
+    places: &mut Places,
+    levels: &mut Levels,
+    amplitudes: &mut Amplitudes,
+    kinds: &mut [usize],
+    counts: &mut [u64],
+    shorts: &mut [u32],
+    values: &mut [f32],
+    times: &mut [f64],
+    still: bool,
+    dt: f64,
+    clocks: Clocks,
+    table: &GainTable,
+)
+    requires { ⌜ IsGainTable (now table) ⌝ }
+    requires { ⌜ TracksThere (now places) ⌝ }
+    requires { ⌜ RoutesThere (now places) ⌝ }
+    requires { ⌜ getD (now places) sendCountPlace 0 ≤ sendLines ⌝ }
+    requires { ⌜ RoutesHeard dt clocks (now places) (numbers (now kinds) (now counts) (now shorts) (now values) (now times)) ⌝ }
+    requires { ⌜ ArraysSized (arrays (now places) (now levels) (now amplitudes) (numbers (now kinds) (now counts) (now shorts) (now values) (now times))) ⌝ }
+    requires { ⌜ InAnHour dt ⌝ }
+    requires { ⌜ clocks .count ≤ clockLines ⌝ }
+    ensures { λ _. ⌜ (let a = arrays (now (places .entry)) (now (levels .entry)) (now (amplitudes .entry))
+        (numbers (now (kinds .entry)) (now (counts .entry)) (now (shorts .entry)) (now (values .entry)) (now (times .entry))) in
+        arrays (now (places .exit)) (now (levels .exit)) (now (amplitudes .exit))
+        (numbers (now (kinds .exit)) (now (counts .exit)) (now (shorts .exit)) (now (values .exit)) (now (times .exit)))
+        ≡ cond still a (mixerOn dt clocks a)) ⌝ }
+{
+    if still {
+        return;
+    }
+    moving_mixer::update(
+        places,
+        levels,
+        amplitudes,
+        kinds,
+        counts,
+        shorts,
+        values,
+        times,
+        dt,
+        clocks,
+        table,
+    );
+}
+
+// The mix of a chunk, by the parts of a full chunk or of a block's last one.
+fn mix_chunk<'a>(
+    places: &Places,
+    levels: &Levels,
+    amplitudes: &Amplitudes,
+    sub_tracks: &Links,
+    sounds: &Links,
+    routes: &Links,
+    full: &Parts,
+    last: &Parts,
+    ends: bool,
+    table: &GainTable,
+    samples: &'a [f32],
+    visitor: &'a [f32],
+    sends: &mut [f32],
+    mix: &mut [f32],
+)
+    requires { ⌜ IsGainTable (now table) ⌝ }
+    requires { ⌜ ChunkOk (chunkFrom (now places) (now levels) (now amplitudes)) (recordings (now samples) (now visitor)) ⌝ }
+    requires { ⌜ cond ends (now last) (now full) ≡ partsOf (chunkFrom (now places) (now levels) (now amplitudes) .frames) ⌝ }
+    requires { ⌜ 2 * chunkFrom (now places) (now levels) (now amplitudes) .frames ≤ length (now mix) ⌝ }
+    requires { ⌜ LinksOf (chunkFrom (now places) (now levels) (now amplitudes)) (now «sub_tracks») (now sounds) (now routes) ⌝ }
+    requires { ⌜ length (now sends) ≡ sendPlaces ⌝ }
+    ensures { λ _. ⌜ (let c = chunkFrom (now (places .entry)) (now (levels .entry)) (now (amplitudes .entry)) in
+        now (mix .exit) ≡ withFrames (scratch 0 (c .frames)) (mixedSet c (recordings (now (samples .entry)) (now (visitor .entry)))) (now (mix .entry))) ⌝ }
+{
+    if ends {
+        process_flat(
+            places,
+            levels,
+            amplitudes,
+            sub_tracks,
+            sounds,
+            routes,
+            last,
+            table,
+            samples,
+            visitor,
+            sends,
+            mix,
+        );
+    } else {
+        process_flat(
+            places,
+            levels,
+            amplitudes,
+            sub_tracks,
+            sounds,
+            routes,
+            full,
+            table,
+            samples,
+            visitor,
+            sends,
+            mix,
+        );
+    }
+}
+
+// A chunk: the state moves unless all is still, its frames are mixed, and then the sounds have played them. The clocks have
+// moved already. `sends` and `mix` are room to mix in: what they held does not matter.
+fn process_chunk<'a>(
+    places: &mut Places,
+    levels: &mut Levels,
+    amplitudes: &mut Amplitudes,
+    kinds: &mut [usize],
+    counts: &mut [u64],
+    shorts: &mut [u32],
+    values: &mut [f32],
+    times: &mut [f64],
+    still: bool,
+    dt: f64,
+    clocks: Clocks,
+    sub_tracks: &Links,
+    sounds: &Links,
+    routes: &Links,
+    full: &Parts,
+    last: &Parts,
+    ends: bool,
+    frames: usize,
+    channels: usize,
+    table: &GainTable,
+    samples: &'a [f32],
+    visitor: &'a [f32],
+    sends: &mut [f32],
+    mix: &mut [f32],
+    out: &mut [f32],
+)
+    requires { ⌜ IsGainTable (now table) ⌝ }
+    requires { ⌜ ChunkAsks still frames dt clocks
+        (arrays (now places) (now levels) (now amplitudes) (numbers (now kinds) (now counts) (now shorts) (now values) (now times)))
+        (recordings (now samples) (now visitor)) (now «sub_tracks») (now sounds) (now routes) ⌝ }
+    requires { ⌜ cond ends (now last) (now full) ≡ partsOf frames ⌝ }
+    requires { ⌜ (1 ≤ channels) × (channels ≤ channelsMost) ⌝ }
+    requires { ⌜ length (now out) ≡ frames * channels ⌝ }
+    requires { ⌜ (length (now sends) ≡ sendPlaces) × (length (now mix) ≡ 2 * chunkFramesMost) ⌝ }
+    ensures state { λ _. ⌜ arrays (now (places .exit)) (now (levels .exit)) (now (amplitudes .exit))
+        (numbers (now (kinds .exit)) (now (counts .exit)) (now (shorts .exit)) (now (values .exit)) (now (times .exit)))
+        ≡ arraysAfter still frames dt clocks (arrays (now (places .entry)) (now (levels .entry)) (now (amplitudes .entry))
+        (numbers (now (kinds .entry)) (now (counts .entry)) (now (shorts .entry)) (now (values .entry)) (now (times .entry)))) ⌝ }
+    ensures samples { λ _. ⌜ (let a = arrays (now (places .entry)) (now (levels .entry)) (now (amplitudes .entry))
+        (numbers (now (kinds .entry)) (now (counts .entry)) (now (shorts .entry)) (now (values .entry)) (now (times .entry))) in
+        let heard = recordings (now (samples .entry)) (now (visitor .entry)) in
+        now (out .exit) ≡ mixedSamples channels frames (arraysChunk (arraysIn still frames dt clocks a)) heard) ⌝ }
+{
+    places[FRAMES] = frames;
+    move_state(
+        places,
+        levels,
+        amplitudes,
+        kinds,
+        counts,
+        shorts,
+        values,
+        times,
+        still,
+        dt,
+        clocks,
+        table,
+    );
+    mix_chunk(
+        places,
+        levels,
+        amplitudes,
+        sub_tracks,
+        sounds,
+        routes,
+        full,
+        last,
+        ends,
+        table,
+        samples,
+        visitor,
+        sends,
+        mix,
+    );
+    renderer::write_frames(out, channels, mix, frames);
+    advance(places, frames);
+}
+
+// The chunks of a block, by a head. `full` has the parts of a chunk of `buffer` frames, `last` those of the last
+// chunk.
+fn process_chunks<'a>(
+    places: &mut Places,
+    levels: &mut Levels,
+    amplitudes: &mut Amplitudes,
+    kinds: &mut [usize],
+    counts: &mut [u64],
+    shorts: &mut [u32],
+    values: &mut [f32],
+    times: &mut [f64],
+    still: bool,
+    clocks: Clocks,
+    head: Head,
+    sub_tracks: &Links,
+    sounds: &Links,
+    routes: &Links,
+    full: &Parts,
+    last: &Parts,
+    table: &GainTable,
+    samples: &'a [f32],
+    visitor: &'a [f32],
+    sends: &mut [f32],
+    mix: &mut [f32],
+    out: &mut [f32],
+) -> Clocks
+    requires { ⌜ IsGainTable (now table) ⌝ }
+    requires { ⌜ BlockAsks still head clocks
+        (arrays (now places) (now levels) (now amplitudes) (numbers (now kinds) (now counts) (now shorts) (now values) (now times)))
+        (recordings (now samples) (now visitor)) (now «sub_tracks») (now sounds) (now routes) ⌝ }
+    requires { ⌜ now full ≡ partsOf (head .buffer) ⌝ }
+    requires { ⌜ now last ≡ partsOf (chunkFrames head (chunkCount head - 1)) ⌝ }
+    requires { ⌜ length (now out) ≡ head .block * head .channels ⌝ }
+    requires { ⌜ (length (now sends) ≡ sendPlaces) × (length (now mix) ≡ 2 * chunkFramesMost) ⌝ }
+    ensures clocks { λ r. ⌜ r ≡ chunkClocks head (chunkCount head) clocks ⌝ }
+    ensures state { λ _. ⌜ arrays (now (places .exit)) (now (levels .exit)) (now (amplitudes .exit))
+        (numbers (now (kinds .exit)) (now (counts .exit)) (now (shorts .exit)) (now (values .exit)) (now (times .exit)))
+        ≡ chunkArrays still head clocks (chunkCount head) (arrays (now (places .entry)) (now (levels .entry)) (now (amplitudes .entry))
+        (numbers (now (kinds .entry)) (now (counts .entry)) (now (shorts .entry)) (now (values .entry)) (now (times .entry)))) ⌝ }
+    ensures samples { λ _. ⌜ (let a = arrays (now (places .entry)) (now (levels .entry)) (now (amplitudes .entry))
+        (numbers (now (kinds .entry)) (now (counts .entry)) (now (shorts .entry)) (now (values .entry)) (now (times .entry))) in
+        now (out .exit) ≡ blockHeard still head clocks a (recordings (now (samples .entry)) (now (visitor .entry)))) ⌝ }
+{
+    let channels = head.channels;
+    let count = renderer::chunk_count(head);
+    let mut moved = clocks;
+    let mut k = 0;
+    while k < count {
+        let frames = renderer::chunk_frames(head, k);
+        let from = k * head.buffer * channels;
+        let to = from + frames * channels;
+        let ends = k + 1 == count;
+        let dt = renderer::chunk_seconds(head.rate, frames);
+        moved = update_clocks(moved, dt);
+        process_chunk(
+            places,
+            levels,
+            amplitudes,
+            kinds,
+            counts,
+            shorts,
+            values,
+            times,
+            still,
+            dt,
+            moved,
+            sub_tracks,
+            sounds,
+            routes,
+            full,
+            last,
+            ends,
+            frames,
+            channels,
+            table,
+            samples,
+            visitor,
+            sends,
+            mix,
+            &mut out[from..to],
+        );
+        k += 1;
+    }
+    moved
+}
+
+// The clocks after a block.
+fn block_clocks(clocks: Clocks, head: Head) -> Clocks
+    requires { ⌜ ClocksAsk head clocks ⌝ }
+    ensures { λ r. ⌜ r ≡ chunkClocks head (chunkCount head) clocks ⌝ }
+{
+    let count = renderer::chunk_count(head);
+    let mut moved = clocks;
+    let mut k = 0;
+    while k < count {
+        let frames = renderer::chunk_frames(head, k);
+        moved = update_clocks(moved, renderer::chunk_seconds(head.rate, frames));
+        k += 1;
+    }
+    moved
+}
+
+// The head by which a block is cut where all is still: chunks as long as they can be.
+pub fn still_head(head: Head) -> Head
+    ensures { λ r. ⌜ r ≡ blockHead true head ⌝ }
+{
+    let volume = head.volume;
+    Head {
+        rate: head.rate,
+        channels: head.channels,
+        buffer: CHUNK_FRAMES,
+        block: head.block,
+        blocks: head.blocks,
+        volume: volume,
+    }
+}
+
+// A block. `still` says that nothing of the mixer moves but clocks and sounds: then it is cut in longer
+// chunks, and the clocks move by the scene's own. `full` and `last` have the parts of the scene's chunks,
+// `wide` and `rest` those of the longer ones.
+pub fn process_block<'a>(
+    places: &mut Places,
+    levels: &mut Levels,
+    amplitudes: &mut Amplitudes,
+    kinds: &mut [usize],
+    counts: &mut [u64],
+    shorts: &mut [u32],
+    values: &mut [f32],
+    times: &mut [f64],
+    still: bool,
+    clocks: Clocks,
+    head: Head,
+    sub_tracks: &Links,
+    sounds: &Links,
+    routes: &Links,
+    full: &Parts,
+    last: &Parts,
+    wide: &Parts,
+    rest: &Parts,
+    table: &GainTable,
+    samples: &'a [f32],
+    visitor: &'a [f32],
+    sends: &mut [f32],
+    mix: &mut [f32],
+    out: &mut [f32],
+) -> Clocks
+    requires { ⌜ IsGainTable (now table) ⌝ }
+    requires { ⌜ BlockAsks still (blockHead still head) clocks
+        (arrays (now places) (now levels) (now amplitudes) (numbers (now kinds) (now counts) (now shorts) (now values) (now times)))
+        (recordings (now samples) (now visitor)) (now «sub_tracks») (now sounds) (now routes) ⌝ }
+    requires { ⌜ ClocksAsk head clocks ⌝ }
+    requires { ⌜ now full ≡ partsOf (head .buffer) ⌝ }
+    requires { ⌜ now last ≡ partsOf (chunkFrames head (chunkCount head - 1)) ⌝ }
+    requires { ⌜ now wide ≡ partsOf chunkFramesMost ⌝ }
+    requires { ⌜ now rest ≡ partsOf (chunkFrames (blockHead true head) (chunkCount (blockHead true head) - 1)) ⌝ }
+    requires { ⌜ length (now out) ≡ head .block * head .channels ⌝ }
+    requires { ⌜ (length (now sends) ≡ sendPlaces) × (length (now mix) ≡ 2 * chunkFramesMost) ⌝ }
+    ensures clocks { λ r. ⌜ r ≡ chunkClocks head (chunkCount head) clocks ⌝ }
+    ensures state { λ _. ⌜ arrays (now (places .exit)) (now (levels .exit)) (now (amplitudes .exit))
+        (numbers (now (kinds .exit)) (now (counts .exit)) (now (shorts .exit)) (now (values .exit)) (now (times .exit)))
+        ≡ chunkArrays still (blockHead still head) clocks (chunkCount (blockHead still head)) (arrays (now (places .entry)) (now (levels .entry)) (now (amplitudes .entry))
+        (numbers (now (kinds .entry)) (now (counts .entry)) (now (shorts .entry)) (now (values .entry)) (now (times .entry)))) ⌝ }
+    ensures samples { λ _. ⌜ (let a = arrays (now (places .entry)) (now (levels .entry)) (now (amplitudes .entry))
+        (numbers (now (kinds .entry)) (now (counts .entry)) (now (shorts .entry)) (now (values .entry)) (now (times .entry))) in
+        now (out .exit) ≡ blockHeard still (blockHead still head) clocks a (recordings (now (samples .entry)) (now (visitor .entry)))) ⌝ }
+{
+    if still {
+        let joined = still_head(head);
+        let passed = process_chunks(
+            places,
+            levels,
+            amplitudes,
+            kinds,
+            counts,
+            shorts,
+            values,
+            times,
+            still,
+            clocks,
+            joined,
+            sub_tracks,
+            sounds,
+            routes,
+            wide,
+            rest,
+            table,
+            samples,
+            visitor,
+            sends,
+            mix,
+            out,
+        );
+        return block_clocks(clocks, head);
+    }
+    process_chunks(
+        places,
+        levels,
+        amplitudes,
+        kinds,
+        counts,
+        shorts,
+        values,
+        times,
+        still,
+        clocks,
+        head,
+        sub_tracks,
+        sounds,
+        routes,
+        full,
+        last,
+        table,
+        samples,
+        visitor,
+        sends,
+        mix,
+        out,
+    )
+}

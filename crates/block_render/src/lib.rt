@@ -1,0 +1,7 @@
+// A block of a scene whose mixer stands in lent arrays: chunk by chunk, the state moves, the mix is
+// written, and the sounds move on.
+mod block;
+mod sounds;
+
+pub use block::process_block;
+pub use block::still_head;
