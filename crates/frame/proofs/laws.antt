@@ -1,3 +1,4 @@
 pub mod Layout
 pub mod Turn
 pub mod Sides
+pub mod Numbers

@@ -1,7 +1,8 @@
 // Buffers of frames: slices of f32. Of a sample buffer left and right stand in turn; how the frames of
-// a chunk stand in what tracks are mixed in is the layout `scratch`, and only `frame_at` and
-// `put_frame` know it.
+// a chunk stand in what tracks are mixed in is the layout `scratch`, and only `frame_at`, `put_frame`
+// and `add_to_three` know it.
 ghost use mathlib.Core.Path.{_≡_};
+ghost use mathlib.Core.Logic.{_⊎_};
 ghost use Prim.Native.Nat.{_+_, _*_, _≤_, _<_};
 ghost use lib.ListN.{length};
 ghost use Rattle.frame.specs.Frame.{sampleFrame, cleared, addedFrom, addedScaled, scaledBy};
@@ -104,6 +105,42 @@ pub fn add_to_both(
         let sent = frame_at(other, first, frames, i).added(frame.scaled(factor));
         put_frame(to, 0, frames, i, sum);
         put_frame(other, first, frames, i, sent);
+        i += 1;
+    }
+}
+
+// Adds each frame of `from` onto that of `to` and, scaled, onto two of `other`, whose frames stand from
+// places `first` and `second` on: onto the one, then onto the other, which may be the same, but may not
+// begin within it, since sums would be taken in another order. One loop over both sides, which stand
+// side by side, so that the compiler has few parts to tell apart.
+pub fn add_to_three(
+    to: &mut [f32],
+    other: &mut [f32],
+    first: usize,
+    second: usize,
+    from: &[f32],
+    frames: usize,
+    factor: Amplitude,
+    then: Amplitude,
+)
+    requires { ⌜ 2 * frames ≤ length (now to) ⌝ }
+    requires { ⌜ first + 2 * frames ≤ length (now other) ⌝ }
+    requires { ⌜ second + 2 * frames ≤ length (now other) ⌝ }
+    requires { ⌜ 2 * frames ≤ length (now from) ⌝ }
+    requires { ⌜ (second ≤ first) ⊎ (first + 2 * frames ≤ second) ⌝ }
+    ensures to { λ _. ⌜ now (to .exit) ≡ withFrames (scratch 0 frames) (addedFrom (frameAt (scratch 0 frames) (now (from .entry)))) (now (to .entry)) ⌝ }
+    ensures other { λ _. ⌜ now (other .exit) ≡ withFrames (scratch second frames)
+        (addedScaled (frameAt (scratch 0 frames) (now (from .entry))) then)
+        (withFrames (scratch first frames)
+        (addedScaled (frameAt (scratch 0 frames) (now (from .entry))) factor) (now (other .entry))) ⌝ }
+{
+    let count = 2 * frames;
+    let mut i = 0;
+    while i < count {
+        let x = from[i];
+        to[i] = to[i] + x;
+        other[first + i] = other[first + i] + x * factor.0;
+        other[second + i] = other[second + i] + x * then.0;
         i += 1;
     }
 }

@@ -5,3 +5,4 @@ pub mod Mix
 pub mod Steady
 pub mod Owners
 pub mod Running
+pub mod Routes

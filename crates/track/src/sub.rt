@@ -1,6 +1,6 @@
 // kira's track/sub.rs: a track's frames, and what it and the tracks below it add to the send tracks.
 ghost use mathlib.Core.Path.{_≡_};
-ghost use Prim.Native.Nat.{_-_, _*_, _≤_};
+ghost use Prim.Native.Nat.{_-_, _*_, _≤_, _<_};
 ghost use lib.ListN.{length};
 ghost use Rattle.recordings.specs.Recordings.{recordings};
 ghost use Rattle.limits.specs.Limits.{trackPlaces};
@@ -9,6 +9,7 @@ ghost use Rattle.frame.specs.Frame.{addedFrom};
 ghost use Rattle.frame.specs.Layout.{scratch, frameAt, withFrames};
 ghost use Rattle.chunk.specs.Chunk.{ChunkOk, partsOf, trackRow};
 ghost use Rattle.chunk.specs.Flat.{chunkFrom};
+ghost use Rattle.links.specs.Links.{lastLine, lineBefore};
 ghost use Rattle.track.specs.Owners.{subTrackLinks, soundLinks, routeLinks};
 ghost use Rattle.frame.specs.Running.{AllRunning, AllZero};
 ghost use Rattle.track.specs.Sub.{trackFrame, withTrackSends, withSubSends, sumSet, withRoutesFrom, trackPlacedScaled};
@@ -26,6 +27,7 @@ use chunk::track_at;
 use frame::add_frames;
 use frame::add_scaled;
 use frame::add_to_both;
+use frame::add_to_three;
 use gain_table::GainTable;
 use level_amplitudes::Parts;
 use limits::CHUNK_FRAMES;
@@ -36,8 +38,56 @@ use links::line_before;
 // What a chunk's frames are mixed in.
 pub const SCRATCH: usize = 2 * CHUNK_FRAMES;
 
+// `hand_on` for a track of two routes and more: the last two and the sum take one pass.
+fn hand_on_many<'a>(
+    to: &mut [f32],
+    sends: &mut [f32],
+    out: &[f32],
+    places: &Places,
+    levels: &Levels,
+    amplitudes: &Amplitudes,
+    samples: &'a [f32],
+    visitor: &'a [f32],
+    links: &Links,
+    line: usize,
+)
+    requires { ⌜ ChunkOk (chunkFrom (now places) (now levels) (now amplitudes)) (recordings (now samples) (now visitor)) ⌝ }
+    requires { ⌜ (let c = chunkFrom (now places) (now levels) (now amplitudes) in now links ≡ routeLinks c) ⌝ }
+    requires { ⌜ (let c = chunkFrom (now places) (now levels) (now amplitudes) in 2 * c .frames ≤ length (now to)) ⌝ }
+    requires { ⌜ (let c = chunkFrom (now places) (now levels) (now amplitudes) in 2 * c .frames ≤ length (now out)) ⌝ }
+    requires { ⌜ length (now sends) ≡ sendPlaces ⌝ }
+    requires { ⌜ line ≤ trackPlaces ⌝ }
+    requires { ⌜ (0 < lastLine (now links) line) × (0 < lineBefore (now links) (lastLine (now links) line)) ⌝ }
+    ensures sum { λ _. ⌜ (let c = chunkFrom (now (places .entry)) (now (levels .entry)) (now (amplitudes .entry)) in
+        now (to .exit) ≡ withFrames (scratch 0 (c .frames)) (addedFrom (frameAt (scratch 0 (c .frames)) (now (out .entry)))) (now (to .entry))) ⌝ }
+    ensures sends { λ _. ⌜ (let c = chunkFrom (now (places .entry)) (now (levels .entry)) (now (amplitudes .entry)) in
+        now (sends .exit) ≡ onSends (c .frames) (withRoutesFrom c line (frameAt (scratch 0 (c .frames)) (now (out .entry)))) (now (sends .entry))) ⌝ }
+{
+    let frames = places[FRAMES];
+    let count = places[ROUTE_COUNT];
+    let mut r = last_line(links, line);
+    let mut next = line_before(links, r);
+    let mut after = line_before(links, next);
+    while 0 < after {
+        let route = route_at(places, levels, amplitudes, count - r);
+        let first = (route.send - 1) * SEND_PART;
+        let amplitude = route.amplitude;
+        add_scaled(sends, first, out, frames, amplitude);
+        r = next;
+        next = after;
+        after = line_before(links, next);
+    }
+    let route = route_at(places, levels, amplitudes, count - r);
+    let other = route_at(places, levels, amplitudes, count - next);
+    let first = (route.send - 1) * SEND_PART;
+    let second = (other.send - 1) * SEND_PART;
+    let amplitude = route.amplitude;
+    let then = other.amplitude;
+    add_to_three(to, sends, first, second, out, frames, amplitude, then);
+}
+
 // Adds the scaled frames `out` onto the sum `to`, and to the send tracks that the track is routed to,
-// first line first. The last route and the sum take one pass.
+// first line first.
 fn hand_on<'a>(
     to: &mut [f32],
     sends: &mut [f32],
@@ -63,21 +113,28 @@ fn hand_on<'a>(
 {
     let frames = places[FRAMES];
     let count = places[ROUTE_COUNT];
-    let mut r = last_line(links, line);
-    if r == 0 {
+    let last = last_line(links, line);
+    if last == 0 {
         add_frames(to, out, frames);
         return;
     }
-    let mut next = line_before(links, r);
-    while 0 < next {
-        let route = route_at(places, levels, amplitudes, count - r);
-        let first = (route.send - 1) * SEND_PART;
-        let amplitude = route.amplitude;
-        add_scaled(sends, first, out, frames, amplitude);
-        r = next;
-        next = line_before(links, r);
+    let next = line_before(links, last);
+    if 0 < next {
+        hand_on_many(
+            to,
+            sends,
+            out,
+            places,
+            levels,
+            amplitudes,
+            samples,
+            visitor,
+            links,
+            line,
+        );
+        return;
     }
-    let route = route_at(places, levels, amplitudes, count - r);
+    let route = route_at(places, levels, amplitudes, count - last);
     let first = (route.send - 1) * SEND_PART;
     let amplitude = route.amplitude;
     add_to_both(to, sends, first, out, frames, amplitude);

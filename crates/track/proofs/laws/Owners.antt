@@ -67,6 +67,10 @@ module _ {I : Type 0} (with : (I → Frame → Frame) → List Float → List Fl
   pub follow-done : {room : ℕ} {k : ℕ} {now : List Float} → Steps I with room → room ≤ length begun → k ≡ 0 → Follows with g m owner line begun now k → now ≡ with (λ i a. downto (λ j x. g j i x) m a) begun
   follow-done S r h f = down-done with S g m begun r h (f .rest)
 
+-- the second of the lines that are followed, where there are two
+pub two-there : (links : List ℕ) (line : ℕ) {k next : ℕ} → k ≡ lastLine links line → next ≡ lineBefore links k → 0 < lineBefore links (lastLine links line) → 0 < next
+two-there links line a e h = subst (λ (i : ℕ). 0 < i) (sym (e ∙ ap (lineBefore links) a)) h
+
 -- ---- the links that are made of the flat tables are the chunk's
 
 module _ (places : List ℕ) (levels amplitudes : List Float) where

@@ -1,8 +1,7 @@
 -- A loop that follows the links of a track's sounds up to the last two, which are left for the pass with the scaling: its invariant is `SoundsLeft`
 -- (`laws`, Sound), and that the next two lines are known.
-use mathlib.Core.Path.{_≡_, refl, sym, ap, _∙_, subst}
-use mathlib.Core.List.{List}
-use Prim.Native.Nat.{ℕ, _<_}
+use mathlib.Core.Path.{_≡_, refl, ap, _∙_}
+use Prim.Native.Nat.{_<_}
 use native.Mathlib.Omega.{arith}
 use lib.ListN.{length}
 use borrow.Author.Needs.{needs}
@@ -10,15 +9,13 @@ use Rattle.recordings.specs.Recordings.{recordings}
 use Rattle.frame.specs.Layout.{scratch, withFrames}
 use Rattle.frame.proofs.laws.Layout.{kept}
 use Rattle.chunk.specs.Flat.{chunkFrom}
-use Rattle.links.specs.Links.{lastLine, lineBefore}
+use Rattle.links.specs.Links.{lineBefore}
 use Rattle.sound.specs.Part.{addedPart}
 use Rattle.track_volume.specs.TrackVolume.{trackPlacedScaled}
+use Rattle.track.proofs.laws.Owners.{two-there}
 use Rattle.track.proofs.laws.Sound.{SoundsLeft, sounds-begin, sounds-less, sounds-turn, sounds-end}
 use Rattle.track.proofs.sounds.add_many_and_scale.Statement.{statement}
 use Rattle.track.proofs.sounds.add_many_and_scale.Tie as tie
-
-two-there : (links : List ℕ) (line : ℕ) {k next : ℕ} → k ≡ lastLine links line → next ≡ lineBefore links k → 0 < lineBefore links (lastLine links line) → 0 < next
-two-there links line a e h = subst (λ (i : ℕ). 0 < i) (sym (e ∙ ap (lineBefore links) a)) h
 
 abbrev Inv-loop : tie.InvT-loop
 Inv-loop to₀ track samples visitor places levels amplitudes parts table links line frames k₀ next₀ after₀ to k next after =
