@@ -11,6 +11,7 @@ pub use cases::samples_of;
 pub use list::buffer;
 pub use list::read;
 pub use list::report;
+pub use list::short_buffer;
 pub use text::Column;
 pub use text::Column32;
 pub use text::hex;

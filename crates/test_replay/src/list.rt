@@ -4,7 +4,14 @@ ghost use lib.ListN.{length};
 ghost use Rattle.io.specs.Counts.{Counts};
 use libc::STDOUT_FILENO;
 
-// Room for a list. The `ensures` gives only the length, which lending the array as a slice needs.
+// Room for a list. The `ensures` gives only the length, which lending the array as a slice needs. The
+// prover's time goes by the length, so a program takes no more than it needs.
+pub fn short_buffer() -> [u8; 204800]
+    ensures { λ r. ⌜ 204800 ≡ length r ⌝ }
+{
+    [0; 204800]
+}
+
 pub fn buffer() -> [u8; 524288]
     ensures { λ r. ⌜ 524288 ≡ length r ⌝ }
 {
