@@ -1,4 +1,5 @@
 pub mod Rest
+pub mod Ended
 pub mod Moved
 pub mod Lines
 pub mod Over

@@ -1,5 +1,5 @@
 -- `Mixer::update` on arrays: what a chunk moves. A parameter that is stagnant is not read.
-use mathlib.Core.Bool.{Bool, true, false, cond}
+use mathlib.Core.Bool.{Bool, true, false, cond, not}
 use mathlib.Core.List.{List}
 use Prim.Native.Nat.{ℕ, _+_, _-_, _*_, _≤_, _<_}
 use lib.Dec.{T, eqb}
@@ -11,14 +11,14 @@ use Rattle.decibels.specs.Decibels.{admitted, amplitude}
 use Rattle.clock.specs.declared.when_to_start.Clocks.{Clocks}
 use Rattle.parameter.specs.Parameter.{parameterUpdate}
 use Rattle.playback.specs.declared.playback_state_manager.PlaybackStateManager.{PlaybackStateManager}
-use Rattle.playback.specs.PlaybackStateManager.{isAdvancing, playbackUpdate}
+use Rattle.playback.specs.PlaybackStateManager.{isAdvancing, stateUpdate}
 use Rattle.chunk.specs.declared.chunk.Level.{Level}
 use Rattle.chunk.specs.Flat.{advancingFrom, routeTracksFrom, trackCountPlace, sendCountPlace, routeCountPlace}
 use Rattle.chunk.specs.Flat.{levelSize, sendLevelsFrom, mainFrom, levelFrom, flag}
 use Rattle.mixer_chunk.specs.ChunkOf.{levelOf}
 use Rattle.parameter_store.specs.Store.{Numbers, isWaiting, stagnantAt, parameterFrom, playbackFrom, reachedAt, routeLevel}
 use Rattle.parameter_store.specs.Store.{withParameter, withPlayback, withReached, withRouteLevel}
-use Rattle.moving_mixer.specs.State.{Arrays, arrays, fadeNumber, routeNumber, sendNumber, mainNumber, mixerRoute, volumePlace, fadePlace, playbackAt}
+use Rattle.moving_mixer.specs.State.{Arrays, arrays, fadeNumber, routeNumber, sendNumber, mainNumber, mixerRoute, volumePlace, fadePlace}
 
 -- a level after a chunk that moves nothing
 abbrev pub stayed : Level → Level
@@ -38,14 +38,25 @@ parameterOn dt clocks p level n = cond (stagnantAt n p) n (withParameter p (para
 unfoldable pub playbackRests : Numbers → ℕ → Bool
 playbackRests n j = cond (isWaiting (playbackFrom n j)) false (stagnantAt n (fadeNumber j))
 
+-- the state stays once the fade has moved: it waits for nothing, and the fade goes on
+unfoldable pub stateStays : Numbers → ℕ → Bool
+stateStays n j = cond (isWaiting (playbackFrom n j)) false (not (stagnantAt n (fadeNumber j)))
+
 unfoldable pub withManager : ℕ → PlaybackStateManager → Numbers → Numbers
 withManager j m n = withParameter (fadeNumber j) (m .«volume_fade») (withPlayback j (m .state) n)
 
+-- the state where the fade, which has this level, has just ended; one that waits does not ask whether it has
+unfoldable pub stateOn : Float → Clocks → ℕ → Level → Numbers → Numbers
+stateOn dt clocks j level n = withManager j (stateUpdate (playbackFrom n j) (parameterFrom n (fadeNumber j) level) true dt clocks .manager) n
+
+-- no change of state moves the fade's values
 unfoldable pub fadeOn : Float → Clocks → ℕ → Level → Numbers → Level
-fadeOn dt clocks j level n = levelOf (playbackUpdate (playbackAt j level n) dt clocks .manager .«volume_fade»)
+fadeOn dt clocks j level n = levelOn dt clocks (fadeNumber j) level n
 
 unfoldable pub playbackOn : Float → Clocks → ℕ → Level → Numbers → Numbers
-playbackOn dt clocks j level n = cond (playbackRests n j) n (withManager j (playbackUpdate (playbackAt j level n) dt clocks .manager) n)
+playbackOn dt clocks j level n =
+    let m = parameterOn dt clocks (fadeNumber j) level n in
+    cond (playbackRests n j) n (cond (stateStays m j) m (stateOn dt clocks j (fadeOn dt clocks j level n) m))
 
 -- ---- tracks
 

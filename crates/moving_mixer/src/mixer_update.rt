@@ -15,7 +15,7 @@ ghost use Rattle.chunk.specs.Flat.{placesSize, levelsSize, sendCountPlace, rout
 ghost use Rattle.mixer_chunk.specs.ChunkOf.{levelOf};
 ghost use Rattle.parameter_store.specs.Store.{numbers, Sized, parameters, kindsSize};
 ghost use Rattle.moving_mixer.specs.State.{arrays, mixerRoute};
-ghost use Rattle.moving_mixer.specs.Update.{stayed, levelOn, parameterOn, playbackRests, withManager, fadeOn, playbackOn};
+ghost use Rattle.moving_mixer.specs.Update.{stayed, levelOn, parameterOn, playbackRests, stateStays, withManager, stateOn, fadeOn, playbackOn};
 ghost use Rattle.moving_mixer.specs.Update.{reachedOn, liveBelow, trackOn, tracksOn, routeMoved, routeOn, routesOn, levelledOn, sendsOn, mixerOn};
 ghost use Rattle.moving_mixer.specs.Update.{TracksThere, RoutesThere, RoutesHeard};
 use chunk::ADVANCING;
@@ -143,7 +143,47 @@ pub fn put_manager(
     put_parameter(kinds, counts, shorts, values, times, FADES + j, fade);
 }
 
-// The playback state of track j, whose fade has this level. It answers the fade's level after the chunk.
+// Whether the state stays once the fade has moved: it waits for nothing, and the fade goes on.
+fn state_stays(kinds: &[usize], j: usize) -> bool
+    requires { ⌜ j < trackPlaces ⌝ }
+    requires { ⌜ length (now kinds) ≡ kindsSize ⌝ }
+    ensures { λ r. ⌜ ((counts shorts : List ℕ) (values times : List Float)
+        → r ≡ stateStays (numbers (now (kinds .entry)) counts shorts values times) j) ⌝ }
+{
+    if waits_at(kinds, j) {
+        return false;
+    }
+    !stagnant_at(kinds, FADES + j)
+}
+
+// The state of track j, whose fade has this level and has just ended. A state that waits does
+// not ask whether it has.
+fn update_state(
+    kinds: &mut [usize],
+    counts: &mut [u64],
+    shorts: &mut [u32],
+    values: &mut [f32],
+    times: &mut [f64],
+    j: usize,
+    level: Level,
+    dt: f64,
+    clocks: Clocks,
+)
+    requires { ⌜ j < trackPlaces ⌝ }
+    requires { ⌜ Sized (numbers (now kinds) (now counts) (now shorts) (now values) (now times)) ⌝ }
+    requires { ⌜ InAnHour dt ⌝ }
+    requires { ⌜ clocks .count ≤ clockLines ⌝ }
+    ensures { λ _. ⌜ numbers (now (kinds .exit)) (now (counts .exit)) (now (shorts .exit)) (now (values .exit)) (now (times .exit)) ≡ stateOn dt clocks j level (numbers (now (kinds .entry)) (now (counts .entry)) (now (shorts .entry)) (now (values .entry)) (now (times .entry))) ⌝ }
+{
+    let fade = parameter_at(kinds, counts, shorts, values, times, FADES + j, level);
+    let state = playback_state_at(kinds, counts, shorts, times, j);
+    let update = playback::update_state(state, fade, true, dt, clocks);
+    let moved = update.manager;
+    put_manager(kinds, counts, shorts, values, times, j, moved);
+}
+
+// The playback state of track j, whose fade has this level. It answers the fade's level after the
+// chunk. `update_parameter` alone calls `Parameter::update`, which is inlined there.
 fn update_playback(
     kinds: &mut [usize],
     counts: &mut [u64],
@@ -165,14 +205,22 @@ fn update_playback(
     if playback_rests(kinds, j) {
         return stayed(level);
     }
-    let volume_fade = parameter_at(kinds, counts, shorts, values, times, FADES + j, level);
-    let state = playback_state_at(kinds, counts, shorts, times, j);
-    let manager = PlaybackStateManager { state, volume_fade };
-    let update = manager.update(dt, clocks);
-    let moved = update.manager;
-    put_manager(kinds, counts, shorts, values, times, j, moved);
-    let fade = moved.volume_fade;
-    level_of(fade)
+    let faded = update_parameter(
+        kinds,
+        counts,
+        shorts,
+        values,
+        times,
+        FADES + j,
+        level,
+        dt,
+        clocks,
+    );
+    if state_stays(kinds, j) {
+        return faded;
+    }
+    update_state(kinds, counts, shorts, values, times, j, faded, dt, clocks);
+    faded
 }
 
 // Track j, which is reached.

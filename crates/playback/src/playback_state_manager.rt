@@ -145,7 +145,7 @@ impl PlaybackStateManager {
 }
 
 // The state after an update of the fade, and whether the fade ended with that.
-fn update_state(
+pub fn update_state(
     state: PlaybackState,
     fade: Parameter,
     finished: bool,

@@ -11,17 +11,18 @@ use Rattle.parameter.specs.declared.parameter.Parameter.{Parameter}
 use Rattle.parameter.specs.Parameter.{parameterUpdate}
 use Rattle.playback.specs.declared.playback_state_manager.PlaybackState.{PlaybackState}
 use Rattle.playback.specs.declared.playback_state_manager.PlaybackStateManager.{PlaybackStateManager}
-use Rattle.playback.specs.PlaybackStateManager.{playbackUpdate}
+use Rattle.playback.specs.PlaybackStateManager.{stateUpdate, playbackUpdate}
 use Rattle.chunk.specs.declared.chunk.Level.{Level}
 use Rattle.mixer_chunk.specs.ChunkOf.{levelOf}
-use Rattle.parameter_store.specs.Store.{Numbers, Sized, parameters, stagnantAt, parameterFrom, playbackFrom, reachedAt, routeLevel, withParameter, withPlayback}
+use Rattle.parameter_store.specs.Store.{Numbers, Sized, parameters, isWaiting, stagnantAt, parameterFrom, playbackFrom, reachedAt, routeLevel, withParameter, withPlayback}
 use Rattle.parameter_store.proofs.laws.Store.{parameter-here, playback-here}
 use Rattle.parameter_store.proofs.laws.Store.{sized-parameter, sized-playback}
 use Rattle.parameter_store.proofs.laws.Store.{parameter-there, parameter-playback, parameter-reached, parameter-route}
 use Rattle.parameter_store.proofs.laws.Store.{playback-parameter, playback-there, playback-reached, playback-route}
 use Rattle.moving_mixer.specs.State.{fadeNumber, playbackAt}
-use Rattle.moving_mixer.specs.Update.{levelOn, parameterOn, playbackRests, withManager, fadeOn, playbackOn}
-use Rattle.moving_mixer.proofs.laws.Rest.{stagnant-parameter, stagnant-level, playback-stays, fade-stays}
+use Rattle.moving_mixer.specs.Update.{levelOn, parameterOn, playbackRests, stateStays, withManager, stateOn, fadeOn, playbackOn}
+use Rattle.moving_mixer.proofs.laws.Rest.{stagnant-parameter, stagnant-level, playback-stays, fade-stays, moves-unless, stays-both, ends-unless}
+use Rattle.moving_mixer.proofs.laws.Ended.{state-level, waits-updated, ended-updated, stays-updated}
 
 -- what a step that moves parameter p keeps
 pub record OthersKept (p : ℕ) (n m : Numbers) : Type 0 where
@@ -100,25 +101,90 @@ module _ (dt : Float) (clocks : Clocks) {n : Numbers} (s : Sized n) where
     parameter-moved = moved-by (stagnantAt n p) refl
 
   module _ (j : ℕ) (level : Level) (h : j < trackPlaces) where
+    abbrev fade : Parameter
+    fade = parameterFrom n (fadeNumber j) level
+
     abbrev managed : PlaybackStateManager
     managed = playbackUpdate (playbackAt j level n) dt clocks .manager
 
-    played-kept-by : (b : Bool) → PlaybackKept j n (cond b n (withManager j managed n))
-    played-kept-by true = record { parameter = λ q d g l. refl; playback = λ i d g. refl; reached = λ i g. refl; route = λ r g. refl; sized = s }
-    played-kept-by false = manager-kept s j managed h
+    -- once the fade has moved, and once the state has
+    abbrev faded : Level
+    faded = levelOn dt clocks (fadeNumber j) level n
+
+    abbrev n₁ : Numbers
+    n₁ = parameterOn dt clocks (fadeNumber j) level n
+
+    abbrev ended : PlaybackStateManager
+    ended = stateUpdate (playbackFrom n₁ j) (parameterFrom n₁ (fadeNumber j) faded) true dt clocks .manager
+
+    first : OthersKept (fadeNumber j) n n₁
+    first = parameter-kept (fadeNumber j) level (omega arith)
+
+    -- ---- what is kept
+
+    fade-kept : PlaybackKept j n n₁
+    fade-kept = record { parameter = first .parameter; playback = λ i d g. first .playback i g; reached = first .reached; route = first .route; sized = first .sized }
+
+    state-kept : PlaybackKept j n (withManager j ended n₁)
+    state-kept =
+        let k : PlaybackKept j n₁ (withManager j ended n₁) = manager-kept (first .sized) j ended h in
+        record {
+          parameter = λ q d g l. k .parameter q d g l ∙ first .parameter q d g l;
+          playback = λ i d g. k .playback i d g ∙ first .playback i g;
+          reached = λ i g. k .reached i g ∙ first .reached i g;
+          route = λ r g. k .route r g ∙ first .route r g;
+          sized = k .sized;
+        }
+
+    played-kept-by : (b c : Bool) → PlaybackKept j n (cond b n (cond c n₁ (withManager j ended n₁)))
+    played-kept-by true c = record { parameter = λ q d g l. refl; playback = λ i d g. refl; reached = λ i g. refl; route = λ r g. refl; sized = s }
+    played-kept-by false true = fade-kept
+    played-kept-by false false = state-kept
 
     pub playback-kept : PlaybackKept j n (playbackOn dt clocks j level n)
-    unfolding playbackOn
-    playback-kept = played-kept-by (playbackRests n j)
+    unfolding playbackOn stateOn fadeOn
+    playback-kept = played-kept-by (playbackRests n j) (stateStays n₁ j)
 
-    managed-here : playbackAt j (fadeOn dt clocks j level n) (withManager j managed n) ≡ managed
+    -- ---- what has moved
+
+    fade-after : parameterFrom n₁ (fadeNumber j) faded ≡ parameterUpdate fade dt clocks .parameter
+    fade-after = parameter-moved (fadeNumber j) level (omega arith)
+
+    stagnant-after : stagnantAt n₁ (fadeNumber j) ≡ parameterUpdate fade dt clocks .parameter .stagnant
+    unfolding parameterFrom
+    stagnant-after = ap (λ (x : Parameter). x .stagnant) fade-after
+
+    waits-after : isWaiting (playbackFrom n₁ j) ≡ isWaiting (playbackFrom n j)
+    waits-after = ap isWaiting (first .playback j h)
+
+    stays-here : playbackRests n j ≡ false → stateStays n₁ j ≡ true → playbackAt j faded n₁ ≡ managed
+    unfolding parameterFrom
+    stays-here r e =
+        let both = stays-both n₁ j e in
+        let w : isWaiting (playbackFrom n j) ≡ false = sym waits-after ∙ both .0 in
+        ap₂ {C = PlaybackStateManager} (λ (x : PlaybackState) (y : Parameter). record { state = x; «volume_fade» = y }) (first .playback j h) fade-after
+        ∙ stays-updated dt clocks (playbackFrom n j) fade w (moves-unless n j r w) (sym stagnant-after ∙ both .1)
+
+    ended-by : (b : Bool) → isWaiting (playbackFrom n j) ≡ b → playbackRests n j ≡ false → stateStays n₁ j ≡ false → stateUpdate (playbackFrom n j) (parameterUpdate fade dt clocks .parameter) true dt clocks .manager ≡ managed
+    unfolding parameterFrom
+    ended-by true w r e = waits-updated dt clocks (playbackFrom n j) fade w
+    ended-by false w r e = ended-updated dt clocks (playbackFrom n j) fade (moves-unless n j r w) (sym stagnant-after ∙ ends-unless n₁ j e (waits-after ∙ w))
+
+    ended-here : playbackRests n j ≡ false → stateStays n₁ j ≡ false → ended ≡ managed
+    ended-here r e =
+        ap₂ {C = PlaybackStateManager} (λ (x : PlaybackState) (y : Parameter). stateUpdate x y true dt clocks .manager) (first .playback j h) fade-after
+        ∙ ended-by (isWaiting (playbackFrom n j)) refl r e
+
+    ended-level : levelOf (ended .«volume_fade») ≡ faded
+    unfolding levelOf parameterFrom
+    ended-level = state-level dt clocks (playbackFrom n₁ j) (parameterFrom n₁ (fadeNumber j) faded) true
+
+    played-by : (b c : Bool) → playbackRests n j ≡ b → stateStays n₁ j ≡ c → playbackAt j (fadeOn dt clocks j level n) (cond b n (cond c n₁ (withManager j ended n₁))) ≡ managed
     unfolding fadeOn
-    managed-here = manager-here s j managed h
-
-    played-by : (b : Bool) → playbackRests n j ≡ b → playbackAt j (fadeOn dt clocks j level n) (cond b n (withManager j managed n)) ≡ managed
-    played-by true e = ap (λ (l : Level). playbackAt j l n) (sym (fade-stays dt clocks n j level e)) ∙ sym (playback-stays dt clocks n j level e)
-    played-by false e = managed-here
+    played-by true c r e = ap (λ (l : Level). playbackAt j l n) (sym (fade-stays dt clocks n j level r)) ∙ sym (playback-stays dt clocks n j level r)
+    played-by false true r e = stays-here r e
+    played-by false false r e = ap (λ (l : Level). playbackAt j l (withManager j ended n₁)) (sym ended-level) ∙ manager-here (first .sized) j ended h ∙ ended-here r e
 
     pub playback-moved : playbackAt j (fadeOn dt clocks j level n) (playbackOn dt clocks j level n) ≡ managed
-    unfolding playbackOn
-    playback-moved = played-by (playbackRests n j) refl
+    unfolding playbackOn stateOn fadeOn
+    playback-moved = played-by (playbackRests n j) (stateStays n₁ j) refl refl

@@ -1,6 +1,6 @@
 -- What the code's steps come to: the definitions, from what each call promises. Assumes nothing.
 use mathlib.Core.Path.{_≡_, refl, ap, sym, subst, _∙_}
-use mathlib.Core.Bool.{Bool, true, false, cond}
+use mathlib.Core.Bool.{Bool, true, false, cond, not}
 use mathlib.Core.List.{List}
 use Prim.Native.Nat.{ℕ, _+_, _-_}
 use lib.Dec.{T, eqb}
@@ -16,13 +16,13 @@ use Rattle.parameter.specs.Parameter.{parameterUpdate}
 use Rattle.playback.specs.declared.playback_state_manager.PlaybackState.{PlaybackState}
 use Rattle.playback.specs.declared.playback_state_manager.PlaybackStateManager.{PlaybackStateManager}
 use Rattle.playback.specs.declared.playback_state_manager.PlaybackUpdate.{PlaybackUpdate}
-use Rattle.playback.specs.PlaybackStateManager.{isAdvancing, playbackUpdate}
+use Rattle.playback.specs.PlaybackStateManager.{isAdvancing, stateUpdate}
 use Rattle.chunk.specs.declared.chunk.Level.{Level}
 use Rattle.chunk.specs.Flat.{advancingFrom, routeTracksFrom, levelFrom, flag}
 use Rattle.mixer_chunk.specs.ChunkOf.{levelOf}
 use Rattle.parameter_store.specs.Store.{Numbers, isWaiting, stagnantAt, parameterFrom, playbackFrom, reachedAt, routeLevel, withParameter, withPlayback, withReached, withRouteLevel}
 use Rattle.moving_mixer.specs.State.{Arrays, arrays, fadeNumber, routeNumber, volumePlace, fadePlace, mixerRoute}
-use Rattle.moving_mixer.specs.Update.{stayed, levelOn, parameterOn, playbackRests, withManager, fadeOn, playbackOn}
+use Rattle.moving_mixer.specs.Update.{stayed, levelOn, parameterOn, playbackRests, stateStays, withManager, stateOn, fadeOn, playbackOn}
 use Rattle.moving_mixer.specs.Update.{putLevel, reachedOn, stillOn, liveBelow, trackOn, routeMoved, routeOn, levelledOn}
 use Rattle.moving_mixer.proofs.laws.Rest.{stagnant-level, fade-stays}
 
@@ -57,6 +57,14 @@ module _ (n : Numbers) (j : ℕ) where
   unfolding playbackRests
   rests-by e t k = k ∙ sym (cond-false (isWaiting (playbackFrom n j)) _ _ (sym e ∙ t))
 
+  pub stays-waiting : {b : Bool} → b ≡ isWaiting (playbackFrom n j) → b ≡ true → false ≡ stateStays n j
+  unfolding stateStays
+  stays-waiting e t = sym (cond-true (isWaiting (playbackFrom n j)) _ _ (sym e ∙ t))
+
+  pub stays-by : {b c : Bool} → b ≡ isWaiting (playbackFrom n j) → b ≡ false → c ≡ stagnantAt n (fadeNumber j) → not c ≡ stateStays n j
+  unfolding stateStays
+  stays-by e t k = ap not k ∙ sym (cond-false (isWaiting (playbackFrom n j)) _ _ (sym e ∙ t))
+
   pub manager-put : (m : PlaybackStateManager) {w x : Numbers} → w ≡ withPlayback j (m .state) n → x ≡ withParameter (fadeNumber j) (m .«volume_fade») w → x ≡ withManager j m n
   unfolding withManager
   manager-put m e f = f ∙ ap (withParameter (fadeNumber j) (m .«volume_fade»)) e
@@ -69,18 +77,32 @@ module _ (n : Numbers) (j : ℕ) where
     pub fade-rests : {b : Bool} {l : Level} → b ≡ playbackRests n j → b ≡ true → l ≡ stayed level → l ≡ fadeOn dt clocks j level n
     fade-rests e t k = k ∙ fade-stays dt clocks n j level (sym e ∙ t)
 
-    updated : {x : Parameter} {s : PlaybackState} {u : PlaybackUpdate} → x ≡ parameterFrom n (fadeNumber j) level → s ≡ playbackFrom n j → u ≡ playbackUpdate (record { state = s; «volume_fade» = x }) dt clocks → u ≡ playbackUpdate (record { state = playbackFrom n j; «volume_fade» = parameterFrom n (fadeNumber j) level }) dt clocks
+    updated : {x : Parameter} {s : PlaybackState} {u : PlaybackUpdate} → x ≡ parameterFrom n (fadeNumber j) level → s ≡ playbackFrom n j → u ≡ stateUpdate s x true dt clocks → u ≡ stateUpdate (playbackFrom n j) (parameterFrom n (fadeNumber j) level) true dt clocks
     updated f g h = rw (h, f, g) refl
 
-    pub playback-moves : {b : Bool} {x : Parameter} {s : PlaybackState} {u : PlaybackUpdate} {m : Numbers} → b ≡ playbackRests n j → b ≡ false → x ≡ parameterFrom n (fadeNumber j) level → s ≡ playbackFrom n j → u ≡ playbackUpdate (record { state = s; «volume_fade» = x }) dt clocks → m ≡ withManager j (u .manager) n → m ≡ playbackOn dt clocks j level n
+    pub state-put : {x : Parameter} {s : PlaybackState} {u : PlaybackUpdate} {m : Numbers} → x ≡ parameterFrom n (fadeNumber j) level → s ≡ playbackFrom n j → u ≡ stateUpdate s x true dt clocks → m ≡ withManager j (u .manager) n → m ≡ stateOn dt clocks j level n
+    unfolding stateOn
+    state-put f g h k = k ∙ ap (λ (v : PlaybackUpdate). withManager j (v .manager) n) (updated f g h)
+
+    pub fade-moves : {l : Level} → l ≡ levelOn dt clocks (fadeNumber j) level n → l ≡ fadeOn dt clocks j level n
+    unfolding fadeOn
+    fade-moves e = e
+
+    abbrev faded : Numbers
+    faded = parameterOn dt clocks (fadeNumber j) level n
+
+    pub playback-fades : {b c : Bool} {m : Numbers} → b ≡ playbackRests n j → b ≡ false → m ≡ faded → c ≡ stateStays m j → c ≡ true → m ≡ playbackOn dt clocks j level n
     unfolding playbackOn
-    playback-moves e t f g h k =
-        k ∙ ap (λ (v : PlaybackUpdate). withManager j (v .manager) n) (updated f g h)
+    playback-fades e t k f u =
+        k ∙ sym (cond-true (stateStays faded j) _ _ (ap (λ (x : Numbers). stateStays x j) (sym k) ∙ sym f ∙ u))
         ∙ sym (cond-false (playbackRests n j) _ _ (sym e ∙ t))
 
-    pub fade-moves : {x : Parameter} {s : PlaybackState} {u : PlaybackUpdate} {l : Level} → x ≡ parameterFrom n (fadeNumber j) level → s ≡ playbackFrom n j → u ≡ playbackUpdate (record { state = s; «volume_fade» = x }) dt clocks → l ≡ levelOf (u .manager .«volume_fade») → l ≡ fadeOn dt clocks j level n
-    unfolding fadeOn
-    fade-moves f g h k = k ∙ ap (λ (v : PlaybackUpdate). levelOf (v .manager .«volume_fade»)) (updated f g h)
+    pub playback-moves : {b c : Bool} {l : Level} {m w : Numbers} → b ≡ playbackRests n j → b ≡ false → l ≡ levelOn dt clocks (fadeNumber j) level n → m ≡ faded → c ≡ stateStays m j → c ≡ false → w ≡ stateOn dt clocks j l m → w ≡ playbackOn dt clocks j level n
+    unfolding playbackOn
+    playback-moves {m = m} e t v k f u g =
+        g ∙ ap (λ (x : Level). stateOn dt clocks j x m) (fade-moves v) ∙ ap (stateOn dt clocks j (fadeOn dt clocks j level n)) k
+        ∙ sym (cond-false (stateStays faded j) _ _ (ap (λ (x : Numbers). stateStays x j) (sym k) ∙ sym f ∙ u))
+        ∙ sym (cond-false (playbackRests n j) _ _ (sym e ∙ t))
 
 -- ---- tracks
 

@@ -1,5 +1,8 @@
+use native.Mathlib.Omega.{arith}
 use Rattle.parameter_store.specs.Store.{numbers}
-use Rattle.moving_mixer.proofs.laws.Steps.{fade-rests, playback-rests, fade-moves, playback-moves}
+use Rattle.moving_mixer.specs.State.{fadeNumber}
+use Rattle.moving_mixer.proofs.laws.Moved.{sized-by, parameter-kept}
+use Rattle.moving_mixer.proofs.laws.Steps.{fade-rests, playback-rests, fade-moves, playback-fades, playback-moves}
 use borrow.Author.Needs.{needs}
 use Rattle.moving_mixer.proofs.mixer_update.update_playback.Statement.{statement}
 use Rattle.moving_mixer.proofs.mixer_update.update_playback.Tie as tie
@@ -20,24 +23,14 @@ returns c =
     let e = c .before .before .playback-rests .ensures (a .counts .now) (a .shorts .now) (a .values .now) (a .times .now) in
     (fade-rests n (a .j) (a .dt) (a .clocks) (a .level) e (c .before .if1 .taken) (c .stayed .ensures), playback-rests n (a .j) (a .dt) (a .clocks) (a .level) e (c .before .if1 .taken))
 
-add-parameter-at : tie.Need-add-parameter-at
-add-parameter-at c = search needs
+add-update-parameter : tie.Need-add-update-parameter
+add-update-parameter c = search needs
 
-parameter-at-requires : tie.Need-parameter-at-requires
-parameter-at-requires c κs = search needs
+update-parameter-requires : tie.Need-update-parameter-requires
+update-parameter-requires c κs = (omega (arith, c .before .before .before .before .before .before .before .before .before .before .before .before .before .pre .0), c .before .before .before .before .before .before .before .before .before .before .before .before .before .pre .1)
 
-playback-state-at-requires : tie.Need-playback-state-at-requires
-playback-state-at-requires c κs = search needs
-
-update-requires : tie.Need-update-requires
-update-requires c κs = search needs
-
-put-manager-requires : tie.Need-put-manager-requires
-put-manager-requires c κs =
-    (c .before .before .before .before .before .before .before .before .before .before .before .before .before .before .before .before .before .before .before .before .before .before .before .before .before .before .pre .0, c .before .before .before .before .before .before .before .before .before .before .before .before .before .before .before .before .before .before .before .before .before .before .before .before .before .before .pre .1 .0)
-
-level-of-requires : tie.Need-level-of-requires
-level-of-requires c κs = search needs
+state-stays-requires : tie.Need-state-stays-requires
+state-stays-requires c κs = search needs
 
 same-length-2 : tie.Need-same-length-2
 same-length-2 c = search needs
@@ -56,13 +49,40 @@ same-length-6 c = search needs
 
 returns-2 : tie.Need-returns-2
 returns-2 c =
-    let a = c .before .before .before .before .before .before .before .before .before .before .before .before .before .before .before .before .before .before .before .before .before .before .before .before .before .before .before .before .before .before .before .before .before .before .before .before .before .before .before .args in
+    let a = c .before .before .before .before .before .before .before .before .before .before .before .before .before .before .before .before .before .before .before .before .before .before .before .before .before .before .before .args in
     let n = numbers (a .kinds .now) (a .counts .now) (a .shorts .now) (a .values .now) (a .times .now) in
-    let e = c .before .before .before .before .before .before .before .before .before .before .before .before .before .before .before .before .before .before .before .before .before .before .before .before .before .before .before .before .before .before .before .before .playback-rests .ensures (a .counts .now) (a .shorts .now) (a .values .now) (a .times .now) in
-    let s = c .before .before .before .before .before .before .before .before .before .before .before .before .before .before .before .before .before .before .before .before .playback-state-at .ensures (a .values .now) in (
-      fade-moves n (a .j) (a .dt) (a .clocks) (a .level) (c .before .before .before .before .before .before .before .before .before .before .before .before .before .before .before .before .before .before .before .before .before .before .before .before .before .parameter-at .ensures) s (c .before .before .before .before .before .before .before .before .before .before .before .before .before .before .before .before .before .before .before .update .ensures) (c .level-of .ensures),
-      playback-moves n (a .j) (a .dt) (a .clocks) (a .level) e (c .before .before .before .before .before .before .before .before .before .before .before .before .before .before .before .before .before .before .before .before .before .before .before .before .before .before .before .before .before .before .before .if1 .left) (c .before .before .before .before .before .before .before .before .before .before .before .before .before .before .before .before .before .before .before .before .before .before .before .before .before .parameter-at .ensures) s (c .before .before .before .before .before .before .before .before .before .before .before .before .before .before .before .before .before .before .before .update .ensures) (c .before .before .before .before .before .before .before .before .before .before .before .before .put-manager .ensures),
-    )
+    let e = c .before .before .before .before .before .before .before .before .before .before .before .before .before .before .before .before .before .before .before .before .playback-rests .ensures (a .counts .now) (a .shorts .now) (a .values .now) (a .times .now) in
+    let u = c .before .before .before .before .before .before .before .before .before .before .before .before .before .update-parameter .ensures in
+    (fade-moves n (a .j) (a .dt) (a .clocks) (a .level) (u .0), playback-fades n (a .j) (a .dt) (a .clocks) (a .level) e (c .before .before .before .before .before .before .before .before .before .before .before .before .before .before .before .before .before .before .before .if1 .left) (u .1) (c .before .state-stays .ensures _ _ _ _) (c .if2 .taken))
+
+update-state-requires : tie.Need-update-state-requires
+update-state-requires c κs =
+    let a = c .before .before .before .before .before .before .before .before .before .before .before .before .before .before .before .before .before .before .before .before .before .before .before .before .before .before .before .before .before .before .before .before .args in
+    let pre = c .before .before .before .before .before .before .before .before .before .before .before .before .before .before .before .before .before .before .before .before .before .before .before .before .before .before .before .before .before .before .before .before .pre in
+    (pre .0, (sized-by (c .before .before .before .before .before .before .before .before .before .before .before .before .before .before .before .before .before .before .update-parameter .ensures .1) (parameter-kept (a .dt) (a .clocks) (pre .1 .0) (fadeNumber (a .j)) (a .level) (omega (arith, pre .0)) .sized), pre .1 .1))
+
+same-length-7 : tie.Need-same-length-7
+same-length-7 c = search needs
+
+same-length-8 : tie.Need-same-length-8
+same-length-8 c = search needs
+
+same-length-9 : tie.Need-same-length-9
+same-length-9 c = search needs
+
+same-length-10 : tie.Need-same-length-10
+same-length-10 c = search needs
+
+same-length-11 : tie.Need-same-length-11
+same-length-11 c = search needs
+
+returns-3 : tie.Need-returns-3
+returns-3 c =
+    let a = c .before .before .before .before .before .before .before .before .before .before .before .before .before .before .before .before .before .before .before .before .before .before .before .before .before .before .before .before .before .before .before .before .before .before .before .before .before .before .before .before .before .before .before .args in
+    let n = numbers (a .kinds .now) (a .counts .now) (a .shorts .now) (a .values .now) (a .times .now) in
+    let e = c .before .before .before .before .before .before .before .before .before .before .before .before .before .before .before .before .before .before .before .before .before .before .before .before .before .before .before .before .before .before .before .before .before .before .before .before .playback-rests .ensures (a .counts .now) (a .shorts .now) (a .values .now) (a .times .now) in
+    let u = c .before .before .before .before .before .before .before .before .before .before .before .before .before .before .before .before .before .before .before .before .before .before .before .before .before .before .before .before .before .update-parameter .ensures in
+    (fade-moves n (a .j) (a .dt) (a .clocks) (a .level) (u .0), playback-moves n (a .j) (a .dt) (a .clocks) (a .level) e (c .before .before .before .before .before .before .before .before .before .before .before .before .before .before .before .before .before .before .before .before .before .before .before .before .before .before .before .before .before .before .before .before .before .before .before .if1 .left) (u .0) (u .1) (c .before .before .before .before .before .before .before .before .before .before .before .before .before .before .before .before .before .state-stays .ensures _ _ _ _) (c .before .before .before .before .before .before .before .before .before .before .before .before .before .before .before .before .if2 .left) (c .before .before .before .before .before .before .before .before .before .before .update-state .ensures))
 
 pub update-playback-spec : {M : Type 1} → statement M
 update-playback-spec =
@@ -72,15 +92,19 @@ update-playback-spec =
     stayed-requires
     same-length
     returns
-    add-parameter-at
-    parameter-at-requires
-    playback-state-at-requires
-    update-requires
-    put-manager-requires
-    level-of-requires
+    add-update-parameter
+    update-parameter-requires
+    state-stays-requires
     same-length-2
     same-length-3
     same-length-4
     same-length-5
     same-length-6
-    returns-2)
+    returns-2
+    update-state-requires
+    same-length-7
+    same-length-8
+    same-length-9
+    same-length-10
+    same-length-11
+    returns-3)
