@@ -7,7 +7,7 @@ use limits::SOUND_LINES;
 use limits::TRACK_PLACES;
 
 // Owners are 0, the mixer, and the lines of tracks from 1 on. Lines with others have no links.
-const OWNERS: usize = TRACK_PLACES + 1;
+pub const OWNERS: usize = TRACK_PLACES + 1;
 
 // The longest column is that of the sounds.
 const LINES: usize = SOUND_LINES;

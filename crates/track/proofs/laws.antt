@@ -6,3 +6,5 @@ pub mod Steady
 pub mod Owners
 pub mod Running
 pub mod Routes
+pub mod Unused
+pub mod Tracks

@@ -4,6 +4,8 @@ mod mix;
 mod send;
 mod sounds;
 mod sub;
+mod used;
 
 pub use mix::process_flat;
 pub use send::SEND_PLACES;
+pub use used::sub_track_links;

@@ -8,7 +8,7 @@ ghost use Rattle.limits.specs.Limits.{trackDepth};
 ghost use Rattle.frame.specs.Layout.{scratch, withFrames};
 ghost use Rattle.chunk.specs.Chunk.{ChunkOk, partsOf};
 ghost use Rattle.chunk.specs.Flat.{chunkFrom};
-ghost use Rattle.track.specs.Owners.{subTrackLinks, soundLinks, routeLinks, LinksOf};
+ghost use Rattle.track.specs.Owners.{SubTrackLinks, soundLinks, routeLinks, LinksOf};
 ghost use Rattle.track.specs.Sub.{withSubSends};
 ghost use Rattle.track.specs.Mix.{mixedSet, tracksSet, withSendTracks};
 ghost use Rattle.track.specs.Send.{sendPlaces, onSends};
@@ -51,7 +51,7 @@ fn process_tracks<'a>(
     requires { ⌜ IsGainTable (now table) ⌝ }
     requires { ⌜ ChunkOk (chunkFrom (now places) (now levels) (now amplitudes)) (recordings (now samples) (now visitor)) ⌝ }
     requires { ⌜ (let c = chunkFrom (now places) (now levels) (now amplitudes) in
-        (now «sub_tracks» ≡ subTrackLinks c) × (now sounds ≡ soundLinks c) × (now routes ≡ routeLinks c)) ⌝ }
+        SubTrackLinks c (now «sub_tracks») × (now sounds ≡ soundLinks c) × (now routes ≡ routeLinks c)) ⌝ }
     requires { ⌜ (let c = chunkFrom (now places) (now levels) (now amplitudes) in now parts ≡ partsOf (c .frames)) ⌝ }
     requires { ⌜ (let c = chunkFrom (now places) (now levels) (now amplitudes) in 2 * c .frames ≤ length (now out)) ⌝ }
     requires { ⌜ length (now sends) ≡ sendPlaces ⌝ }

@@ -10,7 +10,7 @@ ghost use Rattle.frame.specs.Layout.{scratch, frameAt, withFrames};
 ghost use Rattle.chunk.specs.Chunk.{ChunkOk, partsOf, trackRow};
 ghost use Rattle.chunk.specs.Flat.{chunkFrom};
 ghost use Rattle.links.specs.Links.{lastLine, lineBefore};
-ghost use Rattle.track.specs.Owners.{subTrackLinks, soundLinks, routeLinks};
+ghost use Rattle.track.specs.Owners.{SubTrackLinks, soundLinks, routeLinks};
 ghost use Rattle.frame.specs.Running.{AllRunning, AllZero};
 ghost use Rattle.track.specs.Sub.{trackFrame, withTrackSends, withSubSends, sumSet, withRoutesFrom, trackPlacedScaled};
 ghost use Rattle.track.specs.Send.{sendPlaces, onSends};
@@ -142,6 +142,7 @@ fn hand_on<'a>(
 
 // Leaves in `out`, whose frames are zeros, the frames of track `line`, counted from 1, and adds to the
 // send tracks what the tracks below it send. `depth` is how many levels of tracks are left below it.
+// Tracks that nothing is heard from have no links, and are not looked at (`sub_track_links`).
 fn gather<'a>(
     places: &Places,
     levels: &Levels,
@@ -162,7 +163,7 @@ fn gather<'a>(
     requires { ⌜ IsGainTable (now table) ⌝ }
     requires { ⌜ ChunkOk (chunkFrom (now places) (now levels) (now amplitudes)) (recordings (now samples) (now visitor)) ⌝ }
     requires { ⌜ (let c = chunkFrom (now places) (now levels) (now amplitudes) in
-        (now «sub_tracks» ≡ subTrackLinks c) × (now sounds ≡ soundLinks c) × (now routes ≡ routeLinks c)) ⌝ }
+        SubTrackLinks c (now «sub_tracks») × (now sounds ≡ soundLinks c) × (now routes ≡ routeLinks c)) ⌝ }
     requires { ⌜ (let c = chunkFrom (now places) (now levels) (now amplitudes) in now parts ≡ partsOf (c .frames)) ⌝ }
     requires { ⌜ (let c = chunkFrom (now places) (now levels) (now amplitudes) in (1 ≤ line) × (line ≤ c .«track_count»)) ⌝ }
     requires { ⌜ (let c = chunkFrom (now places) (now levels) (now amplitudes) in 2 * c .frames ≤ length (now out)) ⌝ }
@@ -214,8 +215,8 @@ fn gather<'a>(
 
 // Adds the frames of track `line`, counted from 1, onto the sum `to`, and to the send tracks what it
 // and the tracks below it send: its frames are gathered, and handed on. `depth` is how many levels of
-// tracks are left. The sum began at +0.0: it is never -0.0, so that a track which stands still need
-// not add its zeros.
+// tracks are left. The sum began at +0.0: it is never -0.0, so that a track which stands still, or
+// has no link, need not add its zeros.
 pub fn process<'a>(
     places: &Places,
     levels: &Levels,
@@ -235,7 +236,7 @@ pub fn process<'a>(
     requires { ⌜ IsGainTable (now table) ⌝ }
     requires { ⌜ ChunkOk (chunkFrom (now places) (now levels) (now amplitudes)) (recordings (now samples) (now visitor)) ⌝ }
     requires { ⌜ (let c = chunkFrom (now places) (now levels) (now amplitudes) in
-        (now «sub_tracks» ≡ subTrackLinks c) × (now sounds ≡ soundLinks c) × (now routes ≡ routeLinks c)) ⌝ }
+        SubTrackLinks c (now «sub_tracks») × (now sounds ≡ soundLinks c) × (now routes ≡ routeLinks c)) ⌝ }
     requires { ⌜ (let c = chunkFrom (now places) (now levels) (now amplitudes) in now parts ≡ partsOf (c .frames)) ⌝ }
     requires { ⌜ (let c = chunkFrom (now places) (now levels) (now amplitudes) in (1 ≤ line) × (line ≤ c .«track_count»)) ⌝ }
     requires { ⌜ (let c = chunkFrom (now places) (now levels) (now amplitudes) in 2 * c .frames ≤ length (now to)) ⌝ }

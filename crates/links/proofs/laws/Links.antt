@@ -6,7 +6,7 @@ use Prim.Native.Nat.{ℕ, zero, suc, _+_, _-_, _≤_, _<_, zero-le}
 use lib.Dec.{eqb, ltb}
 use lib.ListN.{getD, set, replicate, length, length-set, length-replicate, getD-replicate}
 use mathlib.Core.Path.{_≡_, refl, sym, ap, _∙_, subst}
-use native.Mathlib.Nat.{lt-irrefl}
+use native.Mathlib.Nat.{lt-irrefl, le-refl, le-trans, le-suc}
 use native.Mathlib.Numerals.{add-one}
 use native.Mathlib.Decide.{ℕ-discrete, decLt}
 use native.Mathlib.Omega.{arith}
@@ -47,13 +47,13 @@ module _ (owner : ℕ → ℕ) (o : ℕ) where
     | no d ↦ ap (λ (k : ℕ). owner (k - 1)) (last-before n d) ∙ last-owner n (subst (λ (k : ℕ). 0 < k) (last-before n d) h)
   ]
 
-  -- a loop that passes over the lines of other owners may begin at the last line of this one
-  pub last-skips : {S : Type 0} (f : ℕ → S → S) (n : ℕ) (s : S) → ((k : ℕ) → (owner k ≡ o → ⊥) → (x : S) → f k x ≡ x) → downto f n s ≡ downto f (lastOf owner o n) s
+  -- a loop that passes over the lines of other owners may begin at the last line of this one: until then it stands at s
+  pub last-skips : {S : Type 0} (f : ℕ → S → S) (n : ℕ) (s : S) → ((k : ℕ) → k < n → (owner k ≡ o → ⊥) → f k s ≡ s) → downto f n s ≡ downto f (lastOf owner o n) s
   unfolding downto lastOf
   last-skips f zero s h = refl
   last-skips f (suc n) s h = elim (ℕ-discrete (owner n) o) [
     | yes e ↦ sym (ap (λ (k : ℕ). downto f k s) (last-here n e))
-    | no d ↦ ap (downto f n) (h n d s) ∙ last-skips f n s h ∙ sym (ap (λ (k : ℕ). downto f k s) (last-before n d))
+    | no d ↦ ap (downto f n) (h n (le-refl (suc n)) d) ∙ last-skips f n s (λ k b. h k (le-trans b (le-suc n))) ∙ sym (ap (λ (k : ℕ). downto f k s) (last-before n d))
   ]
 
 -- ---- the array

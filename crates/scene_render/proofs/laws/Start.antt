@@ -1,8 +1,8 @@
 -- The arrays that a show begins with: they are laid out from the scene's new mixer, and stand for it. Assumes nothing.
 use mathlib.Core.Path.{_≡_, sym, ap, _∙_, subst}
 use mathlib.Core.List.{List}
-use Prim.Native.Nat.{ℕ, _≤_}
-use native.Mathlib.Nat.{le-trans, le-of-eq}
+use Prim.Native.Nat.{ℕ, _≤_, _<_}
+use native.Mathlib.Nat.{zero-add, le-trans, le-of-eq}
 use native.Mathlib.Omega.{arith}
 use lib.ListN.{length, getD}
 use lib.Ieee.{Float}
@@ -21,6 +21,7 @@ use Rattle.mixer.proofs.laws.MixerOk.{MixerOk}
 use Rattle.mixer_chunk.specs.ChunkOf.{chunkOf}
 use Rattle.mixer_laws.proofs.laws.Made.{new-ok}
 use Rattle.mixer_laws.proofs.laws.Mixes.{chunk-ok}
+use Rattle.track.specs.Owners.{usedLinks}
 use Rattle.track.proofs.laws.Owners.{links-made}
 use Rattle.parameter_store.specs.Store.{Numbers, Sized}
 use Rattle.moving_mixer.proofs.laws.Over.{mixerOver}
@@ -31,7 +32,7 @@ use Rattle.block_render.proofs.laws.Linked.{chunk-fits}
 use Rattle.block_render.proofs.laws.Stands.{Stands, stands-flat}
 use Rattle.block_render.proofs.laws.Tables.{LinesShow}
 use Rattle.block_render.proofs.laws.Over.{CountsOf}
-use Rattle.block_render.proofs.laws.Lines.{counts-of, lines-of}
+use Rattle.block_render.proofs.laws.Lines.{counts-of, agrees, lines-of}
 use Rattle.block_render.proofs.laws.Chunk.{StandsFor}
 use Rattle.scene_render.specs.Show.{Begins}
 
@@ -45,17 +46,24 @@ module _ {s : Scene} {samples : Recordings} (ok : SceneOk s) (there : SamplesOk 
   new-chunk : chunk ≡ chunkOf s (s .head .buffer) (mixerNew s)
   new-chunk = is ∙ ap (chunkOf s (s .head .buffer)) new
 
+  laid : chunkFrom places levels amplitudes ≡ chunkOf s (s .head .buffer) (mixerNew s)
+  laid = chunk-from (chunkOf s (s .head .buffer) (mixerNew s)) (p ∙ ap placesOf new-chunk) (q ∙ ap levelsOf new-chunk) (r ∙ ap amplitudesOf new-chunk) (chunk-ok s samples 0 (s .head .buffer) (mixerNew s) ok there (new-ok s ok) (ok .buffer .1) .arrays)
+
   counts : CountsOf s places
-  counts =
-      counts-of s (mixerNew s) (s .head .buffer) places levels amplitudes ok
-      (chunk-from (chunkOf s (s .head .buffer) (mixerNew s)) (p ∙ ap placesOf new-chunk) (q ∙ ap levelsOf new-chunk) (r ∙ ap amplitudesOf new-chunk) (chunk-ok s samples 0 (s .head .buffer) (mixerNew s) ok there (new-ok s ok) (ok .buffer .1) .arrays))
+  counts = counts-of s (mixerNew s) (s .head .buffer) places levels amplitudes ok laid
+
+  -- a track's parent stands on an earlier line
+  pub parents-earlier : (k : ℕ) → k < chunk .«track_count» → columnFrom places 0 k ≤ k
+  parents-earlier k h =
+      let count : getD places trackCountPlace 0 ≡ chunk .«track_count» = ap (λ (c : Chunk). c .«track_count») (laid ∙ sym new-chunk) in
+      le-trans (le-of-eq (ap (λ (i : ℕ). getD places i 0) (zero-add k))) (agrees s (mixerNew s) (s .head .buffer) places levels amplitudes ok laid .earlier k (subst (λ (n : ℕ). k < n) (sym count) h))
 
   -- the mixer's lines have their places
   pub counts-fit : (getD places trackCountPlace 0 ≤ trackPlaces) × ((getD places sendCountPlace 0 ≤ sendLines) × (getD places routeCountPlace 0 ≤ routeLines))
   counts-fit = (le-trans (le-of-eq (counts .tracks)) (ok .trackCount), (le-trans (le-of-eq (counts .sends)) (ok .sendCount), le-trans (le-of-eq (counts .routes)) (ok .routeCount)))
 
   pub laid-begins : {c : Clocks} {n : Numbers} (room : Numbers) {l l' l'' : List ℕ} → c ≡ mixer .clocks → Sized room → n ≡ mixerPut mixer places room
-      → l ≡ linksOf (columnFrom places 0) (chunk .«track_count») → l' ≡ linksOf (columnFrom places soundTracksFrom) (chunk .«sound_count») → l'' ≡ linksOf (columnBack places routeTracksFrom (chunk .«route_count»)) (chunk .«route_count»)
+      → l ≡ usedLinks places (chunk .«track_count») (chunk .«sound_count») (chunk .«route_count») → l' ≡ linksOf (columnFrom places soundTracksFrom) (chunk .«sound_count») → l'' ≡ linksOf (columnBack places routeTracksFrom (chunk .«route_count»)) (chunk .«route_count»)
       → Begins s c (arrays places levels amplitudes n) l l' l''
   laid-begins room time sized put a b d =
       let few = chunk-fits s mixer ok (s .head .buffer) is in
@@ -67,7 +75,7 @@ module _ {s : Scene} {samples : Recordings} (ok : SceneOk s) (there : SamplesOk 
         room = room;
         sized = sized;
         state = put ∙ ap (λ (m : Mixer). mixerPut m places room) new;
-        links = links-made chunk levels amplitudes p (few .0) (few .1) (few .2) a b d;
+        links = links-made chunk levels amplitudes p (few .0) (few .1) (few .2) parents-earlier a b d;
       }
 
 -- ---- what it stands for

@@ -28,8 +28,8 @@ use Rattle.track.proofs.laws.Sub.{routeBack, route-taken, route-left, r
 abbrev routeOwner : Chunk → ℕ → ℕ
 routeOwner c k = routeRow c (c .«route_count» - (k + 1)) .track
 
-routes-skip : (c : Chunk) (line : ℕ) (given : ℕ → Frame) (begun : List Float) → Skips (allSends (c .frames)) (routeBack c line given) (c .«route_count») (routeOwner c) line begun
-routes-skip c line given begun k d x = route-left c line given (c .«route_count» - (k + 1)) x d
+routes-skip : (c : Chunk) (line : ℕ) (given : ℕ → Frame) (begun x : List Float) → Skips (allSends (c .frames)) (routeBack c line given) (c .«route_count») (routeOwner c) line begun x
+routes-skip c line given begun x k b d = route-left c line given (c .«route_count» - (k + 1)) x d
 
 -- two ways to count from the end
 back-one : (n r : ℕ) → 0 < r → n - r ≡ n - (r - 1 + 1)
@@ -42,7 +42,7 @@ RoutesLeft c line given begun now r = Follows (allSends (c .frames)) (routeBack 
 module _ (c : Chunk) (samples : Recordings) (ok : ChunkOk c samples) (line : ℕ) (given : ℕ → Frame) (begun : List Float) {links : List ℕ} (few : line ≤ trackPlaces) (linked : links ≡ routeLinks c) where
   pub routes-begin : {r : ℕ} → r ≡ lastLine links line → RoutesLeft c line given begun begun r
   unfolding routeLinks
-  routes-begin at = follow-start (allSends (c .frames)) (routeBack c line given) (c .«route_count») (routeOwner c) line begun (routes-skip c line given begun) few linked at
+  routes-begin at = follow-start (allSends (c .frames)) (routeBack c line given) (c .«route_count») (routeOwner c) line begun (routes-skip c line given begun begun) few linked at
 
   pub routes-less : (r : ℕ) (now : List Float) {next : ℕ} → next ≡ lineBefore links r → 0 < r → RoutesLeft c line given begun now r → next < r
   unfolding routeLinks
@@ -54,7 +54,7 @@ module _ (c : Chunk) (samples : Recordings) (ok : ChunkOk c samples) (line : ℕ
       let n = c .«route_count» in
       let row = read ∙ ap (λ (i : ℕ). routeRow c i) (back-one n r h) in
       let routed = ok .routed (n - (r - 1 + 1)) (omega (arith, h, f .few)) in
-      follow-turn (allSends (c .frames)) (routeBack c line given) n (routeOwner c) line begun r now (routes-skip c line given begun) (omega (arith, ok .routes)) few linked at h f
+      follow-turn (allSends (c .frames)) (routeBack c line given) n (routeOwner c) line begun r now (routes-skip c line given begun _) (omega (arith, ok .routes)) few linked at h f
       (made
       ∙ ap (λ (x : ChunkRoute). withFrames (sendLayout (x .send - 1) (c .frames)) (addedScaled given (x .amplitude)) now) row
       ∙ route-taken c line given (n - (r - 1 + 1)) now (f .own h) (routed .0) (routed .1))

@@ -60,12 +60,12 @@ abbrev pub SoundsLeft : Chunk → Recordings → ℕ → List Float → List Flo
 SoundsLeft c samples line begun now k = Follows (withFrames (scratch 0 (c .frames))) (soundStep c samples line) (c .«sound_count») (soundOwner c) line begun now k
 
 module _ (c : Chunk) (samples : Recordings) (ok : ChunkOk c samples) (line : ℕ) (begun : List Float) {links : List ℕ} (few : line ≤ trackPlaces) (linked : links ≡ soundLinks c) where
-  sounds-skip : Skips (withFrames (scratch 0 (c .frames))) (soundStep c samples line) (c .«sound_count») (soundOwner c) line begun
-  sounds-skip k d x = step-left (withFrames (scratch 0 (c .frames))) (soundRow c k .track) line (addedSound samples (soundRow c k)) x (frames-steps (scratch 0 (c .frames))) d
+  sounds-skip : (x : List Float) → Skips (withFrames (scratch 0 (c .frames))) (soundStep c samples line) (c .«sound_count») (soundOwner c) line begun x
+  sounds-skip x k b d = step-left (withFrames (scratch 0 (c .frames))) (soundRow c k .track) line (addedSound samples (soundRow c k)) x (frames-steps (scratch 0 (c .frames))) d
 
   pub sounds-begin : {k : ℕ} → k ≡ lastLine links line → SoundsLeft c samples line begun begun k
   unfolding soundLinks
-  sounds-begin at = follow-start (withFrames (scratch 0 (c .frames))) (soundStep c samples line) (c .«sound_count») (soundOwner c) line begun sounds-skip few linked at
+  sounds-begin at = follow-start (withFrames (scratch 0 (c .frames))) (soundStep c samples line) (c .«sound_count») (soundOwner c) line begun (sounds-skip begun) few linked at
 
   pub sounds-less : (k : ℕ) (now : List Float) {next : ℕ} → next ≡ lineBefore links k → 0 < k → SoundsLeft c samples line begun now k → next < k
   unfolding soundLinks
@@ -76,7 +76,7 @@ module _ (c : Chunk) (samples : Recordings) (ok : ChunkOk c samples) (line : ℕ
   sounds-turn k now at h f is made =
       let sound = soundRow c (k - 1) in
       let held = ok .held (k - 1) (omega (arith, h, f .few)) in
-      follow-turn (withFrames (scratch 0 (c .frames))) (soundStep c samples line) (c .«sound_count») (soundOwner c) line begun k now sounds-skip (ok .sounds) few linked at h f
+      follow-turn (withFrames (scratch 0 (c .frames))) (soundStep c samples line) (c .«sound_count») (soundOwner c) line begun k now (sounds-skip _) (ok .sounds) few linked at h f
       (sound-added samples sound held (c .frames) now is made
       ∙ sym (step-picked (withFrames (scratch 0 (c .frames))) (sound .track) line (addedSound samples sound) now (f .own h)))
 

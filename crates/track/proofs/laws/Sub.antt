@@ -25,7 +25,7 @@ use Rattle.track.specs.Sound.{withSounds}
 use Rattle.track.specs.Send.{sendPlaces, sendLayout, onSends}
 use Rattle.track.specs.Sub.{overSubTracks, sumOver, trackSum, trackFrame, withRoutes, withTrackSends, withSubSends, placed, sumSet, trackPlaced, trackScaled, trackPlacedScaled, withRoutesFrom}
 use Rattle.frame.proofs.laws.Layout.{Step, first-at, first-cong, first-cong-at, first-held, first-twice}
-use Rattle.frame.proofs.laws.Turn.{frames-steps, step-picked, step-left}
+use Rattle.frame.proofs.laws.Turn.{step-picked}
 use Rattle.track.proofs.laws.Running.{zeros, absorbed}
 use Rattle.track.proofs.laws.Send.{SendStep, allSends, onSends-cong, onSends-same, onSends-twice, one-send}
 
@@ -91,17 +91,6 @@ module _ (d : ℕ) (c : Chunk) (samples : Recordings) (line j : ℕ) (l : List F
   send-taken h e =
       ap (λ (k : ℕ). onSends (c .frames) (withTrackSends d c samples k) l) (line-of j h)
       ∙ sym (step-picked (allSends (c .frames)) (trackRow c (j - 1) .parent) line (λ p x. withTrackSends d c samples (suc (j - 1)) (p .0) (p .1) x) l e)
-
--- a track that stands below another one is passed over
-module _ (d : ℕ) (c : Chunk) (samples : Recordings) (line k : ℕ) (e : trackRow c k .parent ≡ line → ⊥) (l : List Float) where
-  pub sub-left : withFrames (scratch 0 (c .frames)) (subStep d c samples line k) l ≡ l
-  unfolding addedFrom
-  sub-left = step-left (withFrames (scratch 0 (c .frames))) (trackRow c k .parent) line (addedFrom (trackFrame d c samples (suc k))) l (frames-steps (scratch 0 (c .frames))) e
-
-  pub send-left : allSends (c .frames) (subSend d c samples line k) l ≡ l
-  send-left =
-      ap (λ (b : Bool). onSends (c .frames) (λ s i x. cond b (withTrackSends d c samples (suc k) s i x) x) l) (ne-eqb (trackRow c k .parent) line e)
-      ∙ onSends-same (c .frames) (λ s i a. a) l (λ s i a. refl)
 
 module _ (d : ℕ) (c : Chunk) (samples : Recordings) (line : ℕ) (l : List Float) where
   pub sub-done : withFrames (scratch 0 (c .frames)) (λ i a. downto (λ j x. subStep d c samples line j i x) (c .«track_count») a) l ≡ withFrames (scratch 0 (c .frames)) (subSum d c samples line) l

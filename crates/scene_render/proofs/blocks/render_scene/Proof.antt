@@ -16,7 +16,7 @@ use Rattle.renderer.proofs.laws.Renderer.{few-frames}
 use Rattle.parameter_store.specs.Store.{Numbers, numbers, Sized, kindsSize, countsSize, shortsSize, valuesSize, timesSize}
 use Rattle.block_render.proofs.laws.Linked.{chunk-fits}
 use Rattle.scene_render.proofs.laws.Blocks.{wide-head, wide-last, rest-is}
-use Rattle.scene_render.proofs.laws.Start.{new-made, counts-fit, laid-begins}
+use Rattle.scene_render.proofs.laws.Start.{new-made, counts-fit, parents-earlier, laid-begins}
 use Rattle.scene_render.proofs.blocks.render_scene.Statement.{statement}
 use Rattle.scene_render.proofs.blocks.render_scene.Tie as tie
 
@@ -79,21 +79,22 @@ chunk-of-requires c κs =
 flatten-requires : tie.Need-flatten-requires
 flatten-requires c κs = (refl, (refl, refl))
 
-slice-aggregate-links-of : tie.Need-slice-aggregate-links-of
-slice-aggregate-links-of c = sym (ap length (c .before .flatten .ensures .0) ∙ places-length (c .before .before .before .before .before .chunk-of .result))
+slice-aggregate-sub-track-links : tie.Need-slice-aggregate-sub-track-links
+slice-aggregate-sub-track-links c = sym (ap length (c .before .flatten .ensures .0) ∙ places-length (c .before .before .before .before .before .chunk-of .result))
 
-links-of-requires : tie.Need-links-of-requires
-links-of-requires c κs =
+sub-track-links-requires : tie.Need-sub-track-links-requires
+sub-track-links-requires c κs =
     let start = c .before .before .before .before .before .before .before .before .before .before .before .before .before .before .before .before .before .before .before .before in
     let few = chunk-fits (start .args .scene) (c .before .before .before .before .before .before .before .new .result) (start .pre .0) (start .args .scene .head .buffer) (c .before .before .before .before .before .chunk-of .ensures) in
     let long = ap length (c .before .flatten .ensures .0) ∙ places-length (c .before .before .before .before .before .chunk-of .result) in
-    (omega (arith, few .0), omega (arith, few .0, long))
+    let earlier = parents-earlier (start .pre .0) (start .pre .1 .0) (c .before .before .before .before .before .before .before .new .ensures) (c .before .before .before .before .before .chunk-of .ensures) (c .before .flatten .ensures .0) (c .before .flatten .ensures .1 .0) (c .before .flatten .ensures .1 .1) in
+    (long, ((few .0, few .1, few .2), earlier))
 
-slice-aggregate-links-of-2 : tie.Need-slice-aggregate-links-of-2
-slice-aggregate-links-of-2 c = sym (ap length (c .before .before .before .flatten .ensures .0) ∙ places-length (c .before .before .before .before .before .before .before .chunk-of .result))
+slice-aggregate-links-of : tie.Need-slice-aggregate-links-of
+slice-aggregate-links-of c = sym (ap length (c .before .before .before .flatten .ensures .0) ∙ places-length (c .before .before .before .before .before .before .before .chunk-of .result))
 
-links-of-requires-2 : tie.Need-links-of-requires-2
-links-of-requires-2 c κs =
+links-of-requires : tie.Need-links-of-requires
+links-of-requires c κs =
     let start = c .before .before .before .before .before .before .before .before .before .before .before .before .before .before .before .before .before .before .before .before .before .before in
     let few = chunk-fits (start .args .scene) (c .before .before .before .before .before .before .before .before .before .new .result) (start .pre .0) (start .args .scene .head .buffer) (c .before .before .before .before .before .before .before .chunk-of .ensures) in
     let long = ap length (c .before .before .before .flatten .ensures .0) ∙ places-length (c .before .before .before .before .before .before .before .chunk-of .result) in
@@ -148,7 +149,7 @@ slice-aggregate-render-blocks-5 c = search needs
 render-blocks-requires : tie.Need-render-blocks-requires
 render-blocks-requires c κs =
     let start = c .before .before .before .before .before .before .before .before .before .before .before .before .before .before .before .before .before .before .before .before .before .before .before .before .before .before .before .before .before .before .before .before .before .before .before .before .before .before .before .before .before .before .before .before .before .before .before .before .before .before .before .before .before .before .before in
-    let begins = laid-begins (start .pre .0) (start .pre .1 .0) (c .before .before .before .before .before .before .before .before .before .before .before .before .before .before .before .before .before .before .before .before .before .before .before .before .before .before .before .before .before .before .before .before .before .before .before .before .before .before .before .before .before .before .new .ensures) (c .before .before .before .before .before .before .before .before .before .before .before .before .before .before .before .before .before .before .before .before .before .before .before .before .before .before .before .before .before .before .before .before .before .before .before .before .before .before .before .before .chunk-of .ensures) (c .before .before .before .before .before .before .before .before .before .before .before .before .before .before .before .before .before .before .before .before .before .before .before .before .before .before .before .before .before .before .before .before .before .before .before .before .flatten .ensures .0) (c .before .before .before .before .before .before .before .before .before .before .before .before .before .before .before .before .before .before .before .before .before .before .before .before .before .before .before .before .before .before .before .before .before .before .before .before .flatten .ensures .1 .0) (c .before .before .before .before .before .before .before .before .before .before .before .before .before .before .before .before .before .before .before .before .before .before .before .before .before .before .before .before .before .before .before .before .before .before .before .before .flatten .ensures .1 .1) zeros refl zeros-sized (c .before .before .before .before .before .before .before .before .before .before .before .before .before .before .before .before .before .before .before .before .before .before .before .put-mixer .ensures) (c .before .before .before .before .before .before .before .before .before .before .before .before .before .before .before .before .before .before .before .before .before .before .before .before .before .before .before .before .before .before .before .before .before .before .links-of .ensures) (c .before .before .before .before .before .before .before .before .before .before .before .before .before .before .before .before .before .before .before .before .before .before .before .before .before .before .before .before .before .before .before .before .links-of2 .ensures) (c .before .before .before .before .before .before .before .before .before .before .before .before .before .before .before .before .before .before .before .before .before .before .before .before .before .before .before .before .before .before .links-back .ensures) in
+    let begins = laid-begins (start .pre .0) (start .pre .1 .0) (c .before .before .before .before .before .before .before .before .before .before .before .before .before .before .before .before .before .before .before .before .before .before .before .before .before .before .before .before .before .before .before .before .before .before .before .before .before .before .before .before .before .before .new .ensures) (c .before .before .before .before .before .before .before .before .before .before .before .before .before .before .before .before .before .before .before .before .before .before .before .before .before .before .before .before .before .before .before .before .before .before .before .before .before .before .before .before .chunk-of .ensures) (c .before .before .before .before .before .before .before .before .before .before .before .before .before .before .before .before .before .before .before .before .before .before .before .before .before .before .before .before .before .before .before .before .before .before .before .before .flatten .ensures .0) (c .before .before .before .before .before .before .before .before .before .before .before .before .before .before .before .before .before .before .before .before .before .before .before .before .before .before .before .before .before .before .before .before .before .before .before .before .flatten .ensures .1 .0) (c .before .before .before .before .before .before .before .before .before .before .before .before .before .before .before .before .before .before .before .before .before .before .before .before .before .before .before .before .before .before .before .before .before .before .before .before .flatten .ensures .1 .1) zeros refl zeros-sized (c .before .before .before .before .before .before .before .before .before .before .before .before .before .before .before .before .before .before .before .before .before .before .before .put-mixer .ensures) (c .before .before .before .before .before .before .before .before .before .before .before .before .before .before .before .before .before .before .before .before .before .before .before .before .before .before .before .before .before .before .before .before .before .before .sub-track-links .ensures) (c .before .before .before .before .before .before .before .before .before .before .before .before .before .before .before .before .before .before .before .before .before .before .before .before .before .before .before .before .before .before .before .before .links-of .ensures) (c .before .before .before .before .before .before .before .before .before .before .before .before .before .before .before .before .before .before .before .before .before .before .before .before .before .before .before .before .before .before .links-back .ensures) in
     let last = c .before .before .before .before .before .before .before .before .before .before .before .before .before .before .before .before .before .before .before .before .before .before .before .before .before .before .before .before .before .before .before .before .before .before .before .before .before .before .before .before .before .before .before .before .before .before .before .parts-of2 .ensures ∙ ap partsOf (c .before .before .before .before .before .before .before .before .before .before .before .before .before .before .before .before .before .before .before .before .before .before .before .before .before .before .before .before .before .before .before .before .before .before .before .before .before .before .before .before .before .before .before .before .before .before .before .before .last-frames .ensures) in
     let rest = rest-is (start .args .scene) (start .pre .0) (c .before .before .before .before .before .before .before .before .before .before .before .before .before .before .before .before .before .before .before .before .before .before .before .before .before .before .before .before .before .before .before .before .before .before .before .before .before .before .before .before .before .before .before .before .before .still-head .ensures) (c .before .before .before .before .before .before .before .before .before .before .before .before .before .before .before .before .before .before .before .before .before .before .before .before .before .before .before .before .before .before .before .before .before .before .before .before .before .before .before .before .before .before .before .before .last-frames2 .ensures) (c .before .before .before .before .before .before .before .before .before .before .before .before .before .before .before .before .before .before .before .before .before .before .before .before .before .before .before .before .before .before .before .before .before .before .before .before .before .before .before .before .before .before .before .parts-of4 .ensures) in
     (c .before .before .before .before .before .before .before .before .before .before .before .before .before .before .before .before .before .before .before .before .before .before .before .before .before .before .before .before .before .before .before .before .before .before .before .before .before .before .before .before .before .before .before .before .before .before .before .before .before .before .before .gain-table .ensures, (start .pre .0, (start .pre .1 .0, (begins, (c .before .before .before .before .before .before .before .before .before .before .before .before .before .before .before .before .before .before .before .before .before .before .before .before .before .before .before .before .before .before .before .before .before .before .before .before .before .before .before .before .before .before .before .before .before .before .before .before .before .parts-of .ensures, (last, (c .before .before .before .before .before .before .before .before .before .before .before .before .before .before .before .before .before .before .before .before .before .before .before .before .before .before .before .before .before .before .before .before .before .before .before .before .before .before .before .before .before .before .before .before .before .before .parts-of3 .ensures, (rest, start .pre .1 .1))))))))
@@ -174,10 +175,10 @@ render-scene-spec =
     new-requires
     chunk-of-requires
     flatten-requires
+    slice-aggregate-sub-track-links
+    sub-track-links-requires
     slice-aggregate-links-of
     links-of-requires
-    slice-aggregate-links-of-2
-    links-of-requires-2
     slice-aggregate-links-back
     links-back-requires
     slice-aggregate-put-mixer

@@ -11,24 +11,20 @@ use borrow.Author.Needs.{needs}
 use borrow.Author.Tests.{not-true, not-false}
 use Rattle.recordings.specs.Recordings.{Recordings, recordings}
 use Rattle.limits.specs.Limits.{trackPlaces, chunkFramesMost}
-use Rattle.links.specs.Links.{lines}
 use Rattle.chunk.specs.declared.chunk.Chunk.{Chunk}
 use Rattle.chunk.specs.declared.chunk.ChunkTrack.{ChunkTrack}
 use Rattle.chunk.specs.declared.chunk.Level.{Level}
-use Rattle.frame.specs.Frame.{zeroSample}
+use Rattle.frame.specs.Frame.{zeroSample, addedFrom}
 use Rattle.frame.specs.Layout.{scratch, withFrames}
 use Rattle.frame.specs.Running.{AllRunning}
 use Rattle.chunk.specs.Chunk.{LevelInRange, trackRow}
 use Rattle.spatial.specs.Spatial.{PlacingIn}
 use Rattle.chunk.specs.Flat.{chunkFrom}
-use Rattle.track.specs.Owners.{subTrackLinks}
-use Rattle.track.specs.Sub.{trackPlacedScaled, sumSet, withSubSends}
+use Rattle.track.specs.Sub.{trackFrame, withTrackSends, trackPlacedScaled, sumSet, withSubSends}
 use Rattle.frame.proofs.laws.Layout.{kept}
-use Rattle.frame.proofs.laws.Turn.{frames-steps, turn-length}
 use Rattle.track.proofs.laws.Running.{zero-silent, running-silent, running-track}
-use Rattle.track.proofs.laws.Send.{allSends, sends-steps, onSends-length}
-use Rattle.track.proofs.laws.Owners.{Follows, follow-start, follow-less, follow-turn, follow-done}
-use Rattle.track.proofs.laws.Sub.{subStep, subSend, sub-taken, sub-left, send-taken, send-left, sub-done, send-done}
+use Rattle.track.proofs.laws.Send.{onSends-length}
+use Rattle.track.proofs.laws.Tracks.{TracksLeft, tracks-begin, tracks-less, tracks-turn, tracks-end}
 use Rattle.track.proofs.laws.Sub.{sum-gathered, track-added, track-mixed, track-stopped, track-none, sends-mixed, sends-stopped, sends-none}
 use borrow.Fn.Kinds.{In}
 use borrow.Fn.PlainCycle.{Measures, is, falls, and}
@@ -53,15 +49,11 @@ scratchPlaces = 2 * chunkFramesMost
 abbrev silent : List Float
 silent = replicate scratchPlaces zeroSample
 
-abbrev parent : Chunk → ℕ → ℕ
-parent c k = trackRow c k .parent
-
-abbrev Inv : Chunk → Recordings → ℕ → ℕ → List Float → List Float → List Float → List Float → ℕ → Type 0
-Inv chunk samples line d out₀ sends₀ out sends j =
+abbrev Inv : Chunk → Recordings → List ℕ → ℕ → ℕ → List Float → List Float → List Float → List Float → ℕ → Type 0
+Inv chunk samples links line d out₀ sends₀ out sends j =
     (length out ≡ length out₀)
     × (length sends ≡ length sends₀)
-    × Follows (withFrames (scratch 0 (chunk .frames))) (subStep d chunk samples line) (chunk .«track_count») (parent chunk) line out₀ out j
-    × Follows (allSends (chunk .frames)) (subSend d chunk samples line) (chunk .«track_count») (parent chunk) line sends₀ sends j
+    × TracksLeft chunk samples d line links out₀ sends₀ out sends j
     × AllRunning (chunk .frames) out
 
 abbrev μ-gather : Measures 11 gather-kinds.ps ℕ
@@ -84,7 +76,7 @@ process-below t = and 11 process-kinds.ps (falls 11 process-kinds.ps _<_ μ-proc
 
 abbrev gather-Inv-loop : gather-lts.InvT-loop
 gather-Inv-loop places levels amplitudes sub-tracks sounds routes parts table samples visitor line depth track out₀ sends₀ j₀ out sends j =
-    Inv (chunkFrom places levels amplitudes) (recordings samples visitor) line depth out₀ sends₀ out sends j
+    Inv (chunkFrom places levels amplitudes) (recordings samples visitor) sub-tracks line depth out₀ sends₀ out sends j
 
 abbrev gather-μ-loop : gather-lts.MeasureT-loop
 gather-μ-loop places levels amplitudes sub-tracks sounds routes parts table samples visitor line depth track out₀ sends₀ j₀ out sends j =
@@ -112,7 +104,6 @@ gather-loop-holds : (t : ℕ) → gather-lts.Need-loop-holds (
   add-sounds-and-scale-reads.Asked,
   add-sounds-and-scale-reads.Learnt,
 ) (gather-at t) gather.Post gather-Inv-loop gather-μ-loop
-unfolding subTrackLinks
 gather-loop-holds t c =
     let start = c .before .before .before .before .before in
     let args = start .args in
@@ -123,16 +114,9 @@ gather-loop-holds t c =
     let line = args .line in
     let ok = start .pre .1 .1 .0 in
     let d = args .depth in
-    let owned = start .pre .1 .1 .1 .0 .0 in
     let few : line ≤ trackPlaces = omega (arith, start .pre .1 .1 .1 .1 .1 .0 .1, ok .tracks) in
-    let out = args .out .now in
-    let sends = args .sends .now in (
-      refl,
-      refl,
-      follow-start (withFrames L) (subStep d chunk samples line) (chunk .«track_count») (parent chunk) line out (sub-left d chunk samples line) few owned (c .last-line .ensures),
-      follow-start (allSends n) (subSend d chunk samples line) (chunk .«track_count») (parent chunk) line sends (send-left d chunk samples line) few owned (c .last-line .ensures),
-      running-silent n out (start .pre .1 .1 .1 .1 .1 .1 .1 .1 .0),
-    )
+    let run = running-silent n (args .out .now) (start .pre .1 .1 .1 .1 .1 .1 .1 .1 .0) in
+    (refl, refl, tracks-begin ok d line few (args .out .now) (args .sends .now) (start .pre .1 .1 .1 .0 .0) run (c .last-line .ensures), run)
 
 gather-process-requires : (t : ℕ) → gather-lts.Need-process-requires (
   last-line-reads.Asked,
@@ -150,7 +134,7 @@ gather-process-requires t c κs =
     let inv = l .loop .inv in
     let pre = start .pre .1 in
     let long = start .pre .1 .1 .1 .1 .1 .1 .0 in
-    (omega (arith, start .pre .0), (pre .0, (pre .1 .0, (pre .1 .1 .0, (pre .1 .1 .1 .0, ((c .before .before .loop-test .taken, inv .2 .few), (omega (arith, long, inv .0), (inv .1 ∙ start .pre .1 .1 .1 .1 .1 .1 .1 .0, inv .4))))))))
+    (omega (arith, start .pre .0), (pre .0, (pre .1 .0, (pre .1 .1 .0, (pre .1 .1 .1 .0, ((c .before .before .loop-test .taken, inv .2 .summed .few), (omega (arith, long, inv .0), (inv .1 ∙ start .pre .1 .1 .1 .1 .1 .1 .1 .0, inv .3))))))))
 
 gather-line-before-requires : (t : ℕ) → gather-lts.Need-line-before-requires (
   last-line-reads.Asked,
@@ -162,7 +146,7 @@ gather-line-before-requires : (t : ℕ) → gather-lts.Need-line-before-requires
   add-sounds-and-scale-reads.Asked,
   add-sounds-and-scale-reads.Learnt,
 ) (gather-at t) gather.Post gather-Inv-loop gather-μ-loop
-gather-line-before-requires t c κs = (c .before .before .before .before .before .before .before .loop-test .taken, omega (arith, c .before .before .before .before .before .before .before .before .loop .inv .2 .few, c .before .before .before .before .before .before .before .before .before .before .before .before .before .before .pre .1 .1 .0 .tracks))
+gather-line-before-requires t c κs = (c .before .before .before .before .before .before .before .loop-test .taken, omega (arith, c .before .before .before .before .before .before .before .before .loop .inv .2 .summed .few, c .before .before .before .before .before .before .before .before .before .before .before .before .before .before .pre .1 .1 .0 .tracks))
 
 gather-loop-less : (t : ℕ) → gather-lts.Need-loop-less (
   last-line-reads.Asked,
@@ -174,7 +158,6 @@ gather-loop-less : (t : ℕ) → gather-lts.Need-loop-less (
   add-sounds-and-scale-reads.Asked,
   add-sounds-and-scale-reads.Learnt,
 ) (gather-at t) gather.Post gather-Inv-loop gather-μ-loop
-unfolding subTrackLinks
 gather-loop-less t c =
     let start = c .before .before .before .before .before .before .before .before .before .before .before .before .before .before .before in
     let args = start .args in
@@ -189,11 +172,8 @@ gather-loop-less t c =
     let j = l .loop .j in
     let inv = l .loop .inv in
     let h = c .before .before .before .before .before .before .before .before .loop-test .taken in
-    let owned = start .pre .1 .1 .1 .0 .0 in
-    let room : chunk .«track_count» ≤ lines = omega (arith, ok .tracks) in
     let few : line ≤ trackPlaces = omega (arith, start .pre .1 .1 .1 .1 .1 .0 .1, ok .tracks) in
-    let at = c .line-before .ensures in
-    follow-less (withFrames L) (subStep d chunk samples line) (chunk .«track_count») (parent chunk) line (args .out .now) j (l .loop .out) room few owned at h (inv .2)
+    tracks-less ok d line few (args .out .now) (args .sends .now) (inv .2) (c .line-before .ensures) h
 
 gather-loop-again : (t : ℕ) → gather-lts.Need-loop-again (
   last-line-reads.Asked,
@@ -205,7 +185,6 @@ gather-loop-again : (t : ℕ) → gather-lts.Need-loop-again (
   add-sounds-and-scale-reads.Asked,
   add-sounds-and-scale-reads.Learnt,
 ) (gather-at t) gather.Post gather-Inv-loop gather-μ-loop
-unfolding subTrackLinks
 gather-loop-again t c =
     let start = c .before .before .before .before .before .before .before .before .before .before .before .before .before .before .before in
     let args = start .args in
@@ -220,22 +199,13 @@ gather-loop-again t c =
     let j = l .loop .j in
     let inv = l .loop .inv in
     let h = c .before .before .before .before .before .before .before .before .loop-test .taken in
-    let owned = start .pre .1 .1 .1 .0 .0 in
-    let room : chunk .«track_count» ≤ lines = omega (arith, ok .tracks) in
     let few : line ≤ trackPlaces = omega (arith, start .pre .1 .1 .1 .1 .1 .0 .1, ok .tracks) in
-    let at = c .line-before .ensures in
-    let g = subStep d chunk samples line in
-    let q = subSend d chunk samples line in
-    let out = args .out .now in
-    let sends = args .sends .now in
     let made = c .before .before .before .before .before .process .ensures in
-    let e = made .0 ∙ sub-taken d chunk samples line j (l .loop .out) h (inv .2 .own h) in
-    let f = made .1 ∙ send-taken d chunk samples line j (l .loop .sends) h (inv .3 .own h) in (
-      turn-length (withFrames L) (frames-steps L) (g (j - 1)) out (l .loop .out) (inv .0) e,
-      turn-length (allSends n) (sends-steps n (ok .short)) (q (j - 1)) sends (l .loop .sends) (inv .1) f,
-      follow-turn (withFrames L) g (chunk .«track_count») (parent chunk) line out j (l .loop .out) (sub-left d chunk samples line) room few owned at h (inv .2) e,
-      follow-turn (allSends n) q (chunk .«track_count») (parent chunk) line sends j (l .loop .sends) (send-left d chunk samples line) room few owned at h (inv .3) f,
-      running-track n (l .loop .out) (omega (arith, inv .0, start .pre .1 .1 .1 .1 .1 .1 .0)) d chunk samples j (inv .4) (made .0),
+    let run = running-track n (l .loop .out) (omega (arith, inv .0, start .pre .1 .1 .1 .1 .1 .1 .0)) d chunk samples j (inv .3) (made .0) in (
+      kept L (addedFrom (trackFrame d chunk samples j)) n (l .loop .out) (made .0) ∙ inv .0,
+      ap length (made .1) ∙ onSends-length n (withTrackSends d chunk samples j) (l .loop .sends) ∙ inv .1,
+      tracks-turn ok d line few (args .out .now) (args .sends .now) (inv .2) (c .line-before .ensures) h run (made .0) (made .1),
+      run,
     )
 
 gather-add-sounds-and-scale-requires : (t : ℕ) → gather-lts.Need-add-sounds-and-scale-requires (
@@ -307,11 +277,10 @@ gather-returns t c =
     let d = args .depth in
     let inv = c .before .before .before .before .before .loop .inv in
     let out = args .out .now in
-    let sends = args .sends .now in
-    let under = follow-done (withFrames L) (subStep d chunk samples line) (chunk .«track_count») (parent chunk) line out (frames-steps L) (omega (arith, start .pre .1 .1 .1 .1 .1 .1 .0)) (omega (arith, c .before .before .before .before .loop-test .left)) (inv .2) ∙ sub-done d chunk samples line out in
-    let sent = follow-done (allSends n) (subSend d chunk samples line) (chunk .«track_count») (parent chunk) line sends (sends-steps n (ok .short)) (omega (arith, start .pre .1 .1 .1 .1 .1 .1 .1 .0)) (omega (arith, c .before .before .before .before .loop-test .left)) (inv .3) ∙ send-done d chunk samples line sends in
-    let heard = sum-gathered d chunk samples line out (start .pre .1 .1 .1 .1 .1 .1 .0) (start .pre .1 .1 .1 .1 .1 .1 .1 .1 .0) under refl in
-    (c .before .before .add-sounds-and-scale .ensures ∙ ap (withFrames L (trackPlacedScaled (args .track) n)) heard, sent)
+    let few : line ≤ trackPlaces = omega (arith, start .pre .1 .1 .1 .1 .1 .0 .1, ok .tracks) in
+    let mixed = tracks-end ok d line few out (args .sends .now) (inv .2) (start .pre .1 .1 .1 .1 .1 .1 .0) (start .pre .1 .1 .1 .1 .1 .1 .1 .0) (omega (arith, c .before .before .before .before .loop-test .left)) in
+    let heard = sum-gathered d chunk samples line out (start .pre .1 .1 .1 .1 .1 .1 .0) (start .pre .1 .1 .1 .1 .1 .1 .1 .1 .0) (mixed .0) refl in
+    (c .before .before .add-sounds-and-scale .ensures ∙ ap (withFrames L (trackPlacedScaled (args .track) n)) heard, mixed .1)
 
 process-sub-track-at : (t : ℕ) → process-lts.Need-sub-track-at (
   track-at-reads.Asked,
