@@ -11,4 +11,5 @@ pub mod Block
 pub mod Joined
 pub mod Mixed
 pub mod Turn
+pub mod Nanos
 pub mod Cut

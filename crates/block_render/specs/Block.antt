@@ -2,12 +2,12 @@
 use mathlib.Core.Path.{_≡_}
 use mathlib.Core.Bool.{Bool, cond}
 use mathlib.Core.List.{List}
-use Prim.Native.Nat.{ℕ, suc, _≤_, _<_}
+use Prim.Native.Nat.{ℕ, suc, _+_, _≤_, _<_}
 use lib.ListN.{length, getD}
 use lib.Ieee.{Float}
 use Rattle.recordings.specs.Recordings.{Recordings}
 use Rattle.limits.specs.Limits.{clockLines, sendLines, chunkFramesMost, blockFramesMost, channelsMost, rateMost}
-use Rattle.rounding.specs.Duration.{InAnHour}
+use Rattle.rounding.specs.Duration.{InAnHour, nanosFromSecs}
 use Rattle.laws.specs.Loop.{upto}
 use Rattle.laws.specs.Pieces.{pieces}
 use Rattle.clock.specs.declared.when_to_start.Clocks.{Clocks}
@@ -95,6 +95,17 @@ pub record BlockAsks (still : Bool) (h : Head) (clocks : Clocks) (a : Arrays) (s
   pub block : h .block ≤ blockFramesMost
   pub ticks : (k : ℕ) → k < chunkCount h → CanMoveAll (chunkClocks h k clocks) (seconds h k)
   pub chunks : (k : ℕ) → k < chunkCount h → ChunkAsks still (chunkFrames h k) (seconds h k) (chunkClocks h (suc k) clocks) (chunkArrays still h clocks k a) samples l l' l''
+
+-- how long a block is, in nanoseconds: each chunk's are rounded by themselves
+unfoldable pub blockNanos : Head → ℕ
+blockNanos h = upto (λ j n. n + nanosFromSecs (seconds h j)) (chunkCount h) 0
+
+-- what counting them asks
+pub record NanosAsk (h : Head) : Type 0 where
+  pub rate : h .rate ≤ rateMost
+  pub buffer : (1 ≤ h .buffer) × (h .buffer ≤ chunkFramesMost)
+  pub block : h .block ≤ blockFramesMost
+  pub hours : (k : ℕ) → k < chunkCount h → InAnHour (seconds h k)
 
 -- the clocks can move, chunk by chunk
 pub record ClocksAsk (h : Head) (clocks : Clocks) : Type 0 where

@@ -1,8 +1,12 @@
 // A block of a scene, chunk by chunk. The mixer's state stands in lent arrays.
 ghost use mathlib.Core.Path.{_≡_};
+ghost use mathlib.Core.Logic.{_⊎_};
 ghost use mathlib.Core.Bool.{true, cond};
 ghost use Prim.Native.Nat.{_-_, _*_, _≤_};
+ghost use lib.Dec.{T};
 ghost use lib.ListN.{length, getD};
+ghost use lib.Ieee.{lt};
+ghost use Rattle.laws.specs.Float.{posZero};
 ghost use Rattle.recordings.specs.Recordings.{recordings};
 ghost use Rattle.limits.specs.Limits.{clockLines, sendLines, channelsMost, chunkFramesMost};
 ghost use Rattle.rounding.specs.Duration.{InAnHour};
@@ -18,7 +22,7 @@ ghost use Rattle.renderer.specs.Renderer.{chunkCount, chunkFrames};
 ghost use Rattle.parameter_store.specs.Store.{numbers};
 ghost use Rattle.moving_mixer.specs.State.{arrays, ArraysSized};
 ghost use Rattle.moving_mixer.specs.Update.{mixerOn, TracksThere, RoutesThere, RoutesHeard};
-ghost use Rattle.block_render.specs.Block.{mixedSamples, arraysChunk, arraysIn, arraysAfter, ChunkAsks, chunkClocks, chunkArrays, blockHeard, BlockAsks, blockHead, ClocksAsk};
+ghost use Rattle.block_render.specs.Block.{mixedSamples, arraysChunk, arraysIn, arraysAfter, ChunkAsks, chunkClocks, chunkArrays, blockHeard, BlockAsks, blockHead, blockNanos, NanosAsk, ClocksAsk};
 use crate::sounds::advance;
 use chunk::Amplitudes;
 use chunk::FRAMES;
@@ -44,7 +48,7 @@ fn update_clocks(clocks: Clocks, dt: f64) -> Clocks
 }
 
 // What a chunk moves, where anything moves.
-fn move_state(
+pub fn move_state(
     places: &mut Places,
     levels: &mut Levels,
     amplitudes: &mut Amplitudes,
@@ -321,6 +325,9 @@ fn block_clocks(clocks: Clocks, head: Head) -> Clocks
     requires { ⌜ ClocksAsk head clocks ⌝ }
     ensures { λ r. ⌜ r ≡ chunkClocks head (chunkCount head) clocks ⌝ }
 {
+    if clocks.count == 0 {
+        return clocks;
+    }
     let count = renderer::chunk_count(head);
     let mut moved = clocks;
     let mut k = 0;
@@ -330,6 +337,42 @@ fn block_clocks(clocks: Clocks, head: Head) -> Clocks
         k += 1;
     }
     moved
+}
+
+// No block is so long.
+const MANY: u64 = 1 << 62;
+
+// The nanoseconds of a block, or 0 where they are too many.
+pub fn block_nanos(head: Head) -> u64
+    requires { ⌜ NanosAsk head ⌝ }
+    ensures { λ r. ⌜ (r ≡ 0) ⊎ (r ≡ blockNanos head) ⌝ }
+{
+    let count = renderer::chunk_count(head);
+    let mut nanos = 0u64;
+    let mut k = 0;
+    while k < count {
+        let frames = renderer::chunk_frames(head, k);
+        let more = rounding::nanos_from_secs_f64(renderer::chunk_seconds(head.rate, frames));
+        if MANY - nanos < more {
+            return 0;
+        }
+        nanos += more;
+        k += 1;
+    }
+    nanos
+}
+
+// So many nanoseconds as seconds, or 0 where they are more than an hour. That they are as many is the caller's to ask.
+pub fn block_step(nanos: u64) -> f64
+    ensures { λ r. ⌜ InAnHour r × ((r ≡ posZero) ⊎ T (lt posZero r)) ⌝ }
+{
+    let step = std::num::nearest_u64_to_f64(nanos) / 1000000000.0;
+    if 0.0 < step {
+        if step <= 3600.0 {
+            return step;
+        }
+    }
+    0.0
 }
 
 // The head by which a block is cut where all is still: chunks as long as they can be.

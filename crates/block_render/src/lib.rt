@@ -3,5 +3,8 @@
 mod block;
 mod sounds;
 
+pub use block::block_nanos;
+pub use block::block_step;
+pub use block::move_state;
 pub use block::process_block;
 pub use block::still_head;

@@ -2,4 +2,5 @@ pub mod Orders
 pub mod Start
 pub mod Ordered
 pub mod Blocks
+pub mod Waits
 pub mod Turn

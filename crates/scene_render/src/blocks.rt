@@ -1,18 +1,25 @@
 // An accepted scene, block by block. The mixer's state stands in arrays from the first block to the last.
 ghost use mathlib.Core.Path.{_≡_};
 ghost use mathlib.Core.Bool.{true};
-ghost use Prim.Native.Nat.{_-_, _*_, _≤_};
-ghost use lib.ListN.{length};
+ghost use mathlib.Core.List.{List};
+ghost use Prim.Native.Nat.{ℕ, _-_, _*_, _≤_};
+ghost use lib.Ieee.{Float};
+ghost use lib.ListN.{length, getD};
 ghost use Rattle.recordings.specs.Recordings.{recordings};
-ghost use Rattle.limits.specs.Limits.{orderLines, chunkFramesMost, blockFramesMost};
+ghost use Rattle.limits.specs.Limits.{sendLines, orderLines, chunkFramesMost, blockFramesMost};
+ghost use Rattle.rounding.specs.Duration.{InAnHour};
 ghost use Rattle.gain_table.specs.GainTable.{IsGainTable};
 ghost use Rattle.accepted.specs.SceneOk.{SceneOk, SamplesOk};
 ghost use Rattle.chunk.specs.Chunk.{partsOf};
+ghost use Rattle.chunk.specs.Flat.{sendCountPlace};
+ghost use Rattle.track.specs.Send.{sendPlaces};
 ghost use Rattle.renderer.specs.Renderer.{chunkCount, chunkFrames, rendered};
-ghost use Rattle.parameter_store.specs.Store.{numbers};
+ghost use Rattle.parameter_store.specs.Store.{numbers, kindsSize, countsSize, valuesSize};
 ghost use Rattle.moving_mixer.specs.State.{arrays};
-ghost use Rattle.block_render.specs.Block.{blockHead};
-ghost use Rattle.scene_render.specs.Show.{nearerBlock, nextOrders, Begins};
+ghost use Rattle.moving_mixer.specs.Update.{TracksThere, RoutesThere};
+ghost use Rattle.steady_mixer.specs.Arrays.{LevelsIn};
+ghost use Rattle.block_render.specs.Block.{blockHead, chunkClocks};
+ghost use Rattle.scene_render.specs.Show.{nearerBlock, nextOrders, blockWaits, blockStill, blockAfter, blockOut, BlockReady, Begins};
 use chunk::Amplitudes;
 use chunk::LEVELS;
 use chunk::Levels;
@@ -38,6 +45,7 @@ use parameter_store::VALUES;
 use scene::Head;
 use scene::OrderLine;
 use scene::Scene;
+use steady_mixer::is_steady;
 use track::SEND_PLACES;
 
 // The frames of a block's last chunk.
@@ -72,6 +80,158 @@ fn next_orders(orders: [OrderLine; ORDER_LINES], count: usize, blocks: usize, fi
         i += 1;
     }
     end
+}
+
+// Whether something waits in a block for longer than it lasts, and nothing moves. `step` is its seconds.
+fn waits_through(
+    places: &Places,
+    levels: &Levels,
+    kinds: &[usize],
+    counts: &[u64],
+    values: &[f32],
+    rests: bool,
+    ordered: bool,
+    nanos: u64,
+    step: f64,
+) -> bool
+    requires { ⌜ TracksThere (now places) ⌝ }
+    requires { ⌜ RoutesThere (now places) ⌝ }
+    requires { ⌜ getD (now places) sendCountPlace 0 ≤ sendLines ⌝ }
+    requires { ⌜ length (now kinds) ≡ kindsSize ⌝ }
+    requires { ⌜ length (now counts) ≡ countsSize ⌝ }
+    requires { ⌜ length (now values) ≡ valuesSize ⌝ }
+    requires { ⌜ LevelsIn (now places) (now levels) (now values) ⌝ }
+    requires { ⌜ InAnHour step ⌝ }
+    ensures { λ r. ⌜ ((shorts : List ℕ) (times amplitudes : List Float)
+        → r ≡ blockWaits rests ordered nanos step (arrays (now (places .entry)) (now (levels .entry)) amplitudes (numbers (now (kinds .entry)) (now (counts .entry)) shorts (now (values .entry)) times))) ⌝ }
+{
+    if rests {
+        return false;
+    }
+    if ordered {
+        return false;
+    }
+    if nanos == 0 {
+        return false;
+    }
+    if rounding::nanos_from_secs_f64(step) == nanos {
+        let none = [0u64; 0];
+        return is_steady(places, levels, kinds, counts, values, true, nanos, &none);
+    }
+    false
+}
+
+fn stands_still(rests: bool, waits: bool) -> bool
+    ensures { λ r. ⌜ r ≡ blockStill rests waits ⌝ }
+{
+    if rests {
+        return true;
+    }
+    waits
+}
+
+// A block, its orders read. What waits through it is moved once, by all of it, and the block is mixed as one that stands still.
+fn render_block<'a>(
+    places: &mut Places,
+    levels: &mut Levels,
+    amplitudes: &mut Amplitudes,
+    kinds: &mut [usize],
+    counts: &mut [u64],
+    shorts: &mut [u32],
+    values: &mut [f32],
+    times: &mut [f64],
+    ordered: bool,
+    nanos: u64,
+    step: f64,
+    clocks: Clocks,
+    head: Head,
+    sub_tracks: &Links,
+    sounds: &Links,
+    routes: &Links,
+    full: &Parts,
+    last: &Parts,
+    wide: &Parts,
+    rest: &Parts,
+    table: &GainTable,
+    samples: &'a [f32],
+    visitor: &'a [f32],
+    sends: &mut [f32],
+    mix: &mut [f32],
+    out: &mut [f32],
+) -> Clocks
+    requires { ⌜ IsGainTable (now table) ⌝ }
+    requires { ⌜ BlockReady ordered nanos step head clocks
+        (arrays (now places) (now levels) (now amplitudes) (numbers (now kinds) (now counts) (now shorts) (now values) (now times)))
+        (recordings (now samples) (now visitor)) (now «sub_tracks») (now sounds) (now routes) ⌝ }
+    requires { ⌜ now full ≡ partsOf (head .buffer) ⌝ }
+    requires { ⌜ now last ≡ partsOf (chunkFrames head (chunkCount head - 1)) ⌝ }
+    requires { ⌜ now wide ≡ partsOf chunkFramesMost ⌝ }
+    requires { ⌜ now rest ≡ partsOf (chunkFrames (blockHead true head) (chunkCount (blockHead true head) - 1)) ⌝ }
+    requires { ⌜ length (now out) ≡ head .block * head .channels ⌝ }
+    requires { ⌜ (length (now sends) ≡ sendPlaces) × (length (now mix) ≡ 2 * chunkFramesMost) ⌝ }
+    ensures clocks { λ r. ⌜ r ≡ chunkClocks head (chunkCount head) clocks ⌝ }
+    ensures state { λ _. ⌜ arrays (now (places .exit)) (now (levels .exit)) (now (amplitudes .exit))
+        (numbers (now (kinds .exit)) (now (counts .exit)) (now (shorts .exit)) (now (values .exit)) (now (times .exit)))
+        ≡ blockAfter ordered nanos step head clocks (arrays (now (places .entry)) (now (levels .entry)) (now (amplitudes .entry))
+        (numbers (now (kinds .entry)) (now (counts .entry)) (now (shorts .entry)) (now (values .entry)) (now (times .entry)))) ⌝ }
+    ensures samples { λ _. ⌜ now (out .exit) ≡ blockOut ordered nanos step head clocks (arrays (now (places .entry)) (now (levels .entry)) (now (amplitudes .entry))
+        (numbers (now (kinds .entry)) (now (counts .entry)) (now (shorts .entry)) (now (values .entry)) (now (times .entry))))
+        (recordings (now (samples .entry)) (now (visitor .entry))) ⌝ }
+{
+    let none = [0u64; 0];
+    let rests = is_steady(places, levels, kinds, counts, values, false, nanos, &none);
+    let waits = waits_through(
+        places,
+        levels,
+        kinds,
+        counts,
+        values,
+        rests,
+        ordered,
+        nanos,
+        step,
+    );
+    let still = stands_still(rests, waits);
+    block_render::move_state(
+        places,
+        levels,
+        amplitudes,
+        kinds,
+        counts,
+        shorts,
+        values,
+        times,
+        !waits,
+        step,
+        clocks,
+        table,
+    );
+    block_render::process_block(
+        places,
+        levels,
+        amplitudes,
+        kinds,
+        counts,
+        shorts,
+        values,
+        times,
+        still,
+        clocks,
+        head,
+        sub_tracks,
+        sounds,
+        routes,
+        full,
+        last,
+        wide,
+        rest,
+        table,
+        samples,
+        visitor,
+        sends,
+        mix,
+        out,
+    )
 }
 
 // Every block, from the arrays of a new mixer. Orders are read where a block has some.
@@ -116,13 +276,16 @@ fn render_blocks<'a>(
     let count = scene.order_count;
     let blocks = head.blocks;
     let width = head.block * head.channels;
+    let nanos = block_render::block_nanos(head);
+    let step = block_render::block_step(nanos);
     let mut sends = [0.0f32; SEND_PLACES];
     let mut mix = [0.0f32; 2 * CHUNK_FRAMES];
     let mut moved = clocks;
     let mut next = 0;
     let mut b = 0;
     while b < blocks {
-        if b == next {
+        let ordered = b == next;
+        if ordered {
             mixer_orders::on_start_processing(
                 levels,
                 kinds,
@@ -136,10 +299,9 @@ fn render_blocks<'a>(
             );
             next = next_orders(orders, count, blocks, b);
         }
-        let still = steady_mixer::is_steady(places, levels, kinds, values);
         let from = b * width;
         let to = from + width;
-        moved = block_render::process_block(
+        moved = render_block(
             places,
             levels,
             amplitudes,
@@ -148,7 +310,9 @@ fn render_blocks<'a>(
             shorts,
             values,
             times,
-            still,
+            ordered,
+            nanos,
+            step,
             moved,
             head,
             sub_tracks,

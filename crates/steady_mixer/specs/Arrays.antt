@@ -11,23 +11,23 @@ use Rattle.chunk.specs.Flat.{routeTracksFrom, trackCountPlace, sendCountPlace, 
 use Rattle.parameter_store.specs.Store.{reachedAt, routeLevelsFrom}
 use Rattle.moving_mixer.specs.State.{Arrays, mixerTrack, mixerRoute, mixerSend, mixerMain, volumePlace, fadePlace}
 use Rattle.moving_mixer.specs.Update.{liveBelow}
-use Rattle.steady_mixer.specs.Steady.{parameterSteady, steadyWhere, routeSteady}
+use Rattle.steady_mixer.specs.Steady.{Ahead, parameterSteady, steadyWhere, routeSteady}
 
-unfoldable pub sendRests : Arrays → ℕ → Bool
-sendRests a i = parameterSteady (mixerSend a i)
+unfoldable pub sendRests : Ahead → Arrays → ℕ → Bool
+sendRests h a i = parameterSteady h (mixerSend a i)
 
-unfoldable pub trackRests : Arrays → ℕ → Bool
-trackRests a j = steadyWhere (mixerTrack a j) (liveBelow (a .places) (getD (a .places) j 0))
+unfoldable pub trackRests : Ahead → Arrays → ℕ → Bool
+trackRests h a j = steadyWhere h (mixerTrack a j) (liveBelow (a .places) (getD (a .places) j 0))
 
-unfoldable pub routeRests : Arrays → ℕ → Bool
-routeRests a r = routeSteady (mixerRoute (a .state) r) (reachedAt (a .state) (getD (a .places) (routeTracksFrom + r) 0 - 1))
+unfoldable pub routeRests : Ahead → Arrays → ℕ → Bool
+routeRests h a r = routeSteady h (mixerRoute (a .state) r) (reachedAt (a .state) (getD (a .places) (routeTracksFrom + r) 0 - 1))
 
-unfoldable pub arraysSteady : Arrays → Bool
-arraysSteady a =
-    parameterSteady (mixerMain a)
-    && (every (getD (a .places) sendCountPlace 0) (sendRests a)
-    && (every (getD (a .places) trackCountPlace 0) (trackRests a)
-    && every (getD (a .places) routeCountPlace 0) (routeRests a)))
+unfoldable pub arraysSteady : Ahead → Arrays → Bool
+arraysSteady h a =
+    parameterSteady h (mixerMain a)
+    && (every (getD (a .places) sendCountPlace 0) (sendRests h a)
+    && (every (getD (a .places) trackCountPlace 0) (trackRests h a)
+    && every (getD (a .places) routeCountPlace 0) (routeRests h a)))
 
 -- ---- what the code asks: the levels that it compares are numbers
 

@@ -2,16 +2,18 @@
 use mathlib.Core.Path.{_≡_, refl, sym, ap, _∙_, subst}
 use mathlib.Core.Bool.{Bool, true, false, cond}
 use mathlib.Core.List.{List}
-use Prim.Native.Nat.{ℕ, suc, _+_, _≤_, _<_}
+use Prim.Native.Nat.{ℕ, _+_, _≤_, _<_}
 use native.Mathlib.Nat.{le-trans, le-of-eq}
 use native.Mathlib.Omega.{arith}
+use lib.Dec.{T}
 use lib.ListN.{length, getD}
 use lib.Ieee.{Float}
 use Rattle.recordings.specs.Recordings.{Recordings}
-use Rattle.limits.specs.Limits.{routeLines, soundLines}
+use Rattle.limits.specs.Limits.{clockLines, chunkFramesMost, routeLines, soundLines}
+use Rattle.laws.proofs.laws.Unsigned.{unsigned}
 use Rattle.decibels.specs.Decibels.{amplitude}
 use Rattle.clock.specs.declared.when_to_start.Clocks.{Clocks}
-use Rattle.clock.specs.WhenToStart.{clocksUpdated}
+use Rattle.rounding.specs.Duration.{InAnHour}
 use Rattle.parameter.specs.declared.parameter.Parameter.{Parameter}
 use Rattle.parameter.specs.Parameter.{parameterUpdate}
 use Rattle.parameter.proofs.laws.Range.{ParameterIn, valueRange}
@@ -22,15 +24,14 @@ use Rattle.chunk.specs.Flat.{advancingFrom, routeTracksFrom, soundTracksFrom, t
 use Rattle.scene.specs.declared.scene.Scene.{Scene}
 use Rattle.accepted.specs.SceneOk.{SceneOk, SamplesOk}
 use Rattle.mixer.specs.declared.mixer.Mixer.{Mixer}
-use Rattle.mixer.specs.Mixer.{mixerOf, parameterOf, mixerUpdate}
+use Rattle.mixer.specs.Mixer.{mixerOf, parameterOf}
 use Rattle.mixer.specs.Sounds.{playedOn, soundsPlayed}
 use Rattle.mixer.proofs.laws.MixerOk.{MixerOk}
 use Rattle.mixer_chunk.specs.ChunkOf.{chunkOf}
 use Rattle.mixer_laws.proofs.laws.Mixes.{chunk-ok}
+use Rattle.mixer_laws.proofs.laws.Moved.{played-ok}
 use Rattle.track.specs.Owners.{LinksOf}
 use Rattle.track.proofs.laws.Owners.{SameOwners, owners-before, links-kept}
-use Rattle.renderer.specs.Renderer.{chunkFrames, inChunk, chunkDone, chunkSamples}
-use Rattle.renderer.proofs.laws.Renderer.{chunkSeconds, few-frames, seconds-unsigned, seconds-in-an-hour, in-chunk-ok, chunk-done-ok}
 use Rattle.block_render.specs.Advance.{framed, advanced}
 use Rattle.block_render.proofs.laws.Advance.{Moved, apart-before, apart-behind, all-moved}
 use Rattle.block_render.proofs.laws.Stands.{Stands, framed-other, framed-long, stands-count, stands-there, stands-on, stands-framed}
@@ -38,8 +39,6 @@ use Rattle.moving_mixer.proofs.laws.Over.{mixerOver}
 use Rattle.moving_mixer.specs.State.{Arrays, ArraysSized, mixerRoute}
 use Rattle.moving_mixer.specs.Update.{mixerOn, TracksThere, RoutesThere, RoutesHeard}
 use Rattle.moving_mixer.proofs.laws.Mixer.{Agrees}
-use Rattle.steady_mixer.proofs.laws.MixerSteady.{mixerSteady, afterRun}
-use Rattle.steady_mixer.proofs.laws.Steady.{withClocks, still-update}
 use Rattle.block_render.specs.Block.{mixedSamples, arraysChunk, withPlaces, arraysIn, arraysAfter, ChunkAsks}
 use Rattle.block_render.proofs.laws.Tables.{TablesKept, LinesShow, chunk-moved}
 use Rattle.block_render.proofs.laws.Kept.{mixer-kept}
@@ -55,12 +54,14 @@ pub record StandsFor (s : Scene) (base m : Mixer) (c : ℕ) (a : Arrays) (l l' l
   pub state : m ≡ mixerOver (m .clocks) (m .played) a base
   pub links : LinksOf (arraysChunk a) l l' l''
 
--- what moving the arrays gives: `b` stands for the mixer that has moved
-pub record Updated (s : Scene) (base m : Mixer) (dt : Float) (b : Arrays) : Type 0 where
+-- What moving the arrays gives: `b` stands for `next`, whose sounds have not played yet.
+pub record Updated (s : Scene) (base m : Mixer) (c : ℕ) (next : Mixer) (b : Arrays) : Type 0 where
+  pub inside : MixerOk s c next
   pub sized : ArraysSized b
   pub long : length (b .amplitudes) ≡ routeLines
-  pub state : mixerUpdate s dt m ≡ mixerOver (clocksUpdated (m .clocks) dt) (m .played) b base
+  pub state : next ≡ mixerOver (next .clocks) (next .played) b base
   pub amplitudes : AmplitudesShow (s .«route_count») b
+  pub played : next .played ≡ m .played
 
 pub agrees-of : {s : Scene} {base m : Mixer} {c : ℕ} {a : Arrays} {l l' l'' : List ℕ} → SceneOk s → StandsFor s base m c a l l' l'' → Agrees s (a .places)
 agrees-of {s} {base} {m} {c} {a} ok h = stands-agrees s m (a .places) (a .levels) (a .amplitudes) ok (h .stands)
@@ -91,13 +92,7 @@ module _ (s : Scene) (m : Mixer) (n : ℕ) (places : List ℕ) (levels amplitude
 
 -- ---- a chunk
 
-module _ (s : Scene) (base m : Mixer) (c : ℕ) (a : Arrays) (l l' l'' : List ℕ) (ok : SceneOk s) (h : StandsFor s base m c a l l' l'') (k : ℕ) where
-  abbrev frames : ℕ
-  frames = chunkFrames (s .head) k
-
-  abbrev later : Clocks
-  later = clocksUpdated (m .clocks) (chunkSeconds s k)
-
+module _ (s : Scene) (base m : Mixer) (c : ℕ) (a : Arrays) (l l' l'' : List ℕ) (ok : SceneOk s) (h : StandsFor s base m c a l l' l'') (frames : ℕ) (dt : Float) (later : Clocks) where
   abbrev begun : Arrays
   begun = withPlaces (framed frames (a .places)) a
 
@@ -126,11 +121,11 @@ module _ (s : Scene) (base m : Mixer) (c : ℕ) (a : Arrays) (l l' l'' : List �
       amplitude-of s m frames (begun .places) (a .levels) (a .amplitudes) ok (h .stands .same frames) r b ∙ ap (λ (p : Parameter). amplitude (p .«raw_value» .0)) (begun-route r b)
 
   -- what a route comes to has an amplitude
-  routes-heard-on : RoutesHeard (chunkSeconds s k) later (begun .places) (a .state)
-  routes-heard-on r b =
+  pub routes-heard-on : T (unsigned dt) → RoutesHeard dt later (begun .places) (a .state)
+  routes-heard-on w r b =
       let line : r < s .«route_count» = omega (arith, counts .routes) in
-      value-admitted (parameterUpdate (mixerRoute (a .state) r) (chunkSeconds s k) later .parameter .«raw_value» .0)
-      (update-in valueRange value-kept (mixerRoute (a .state) r) (chunkSeconds s k) later (seconds-unsigned s k ok) (subst (ParameterIn valueRange) (begun-route r line) (h .inside .routes r line)) .value)
+      value-admitted (parameterUpdate (mixerRoute (a .state) r) dt later .parameter .«raw_value» .0)
+      (update-in valueRange value-kept (mixerRoute (a .state) r) dt later w (subst (ParameterIn valueRange) (begun-route r line) (h .inside .routes r line)) .value)
 
   tracks-there : TracksThere (begun .places)
   tracks-there = record { few = begun-agrees .trackRoom; parents = begun-agrees .earlier }
@@ -140,34 +135,18 @@ module _ (s : Scene) (base m : Mixer) (c : ℕ) (a : Arrays) (l l' l'' : List �
 
   -- what it is mixed from
   abbrev moving : Bool → Arrays
-  moving still = cond still begun (mixerOn (chunkSeconds s k) later begun)
+  moving still = cond still begun (mixerOn dt later begun)
 
   kept : (still : Bool) → TablesKept (s .«track_count») (s .«send_count») (s .«route_count») (begun .places) (moving still .places) (a .levels) (moving still .levels) (a .amplitudes) (moving still .amplitudes)
   kept true = record { before = λ i b. refl; behind = λ i b. refl; placing = λ j i b e. refl; track = λ j n i b d q e. refl; send = λ j n i b d q e. refl; route = λ r b d. refl }
   kept false =
-      let on = mixerOn (chunkSeconds s k) later begun in
+      let on = mixerOn dt later begun in
       subst (λ (x : ℕ). TablesKept (s .«track_count») (s .«send_count») x (begun .places) (on .places) (a .levels) (on .levels) (a .amplitudes) (on .amplitudes)) (counts .routes)
       (subst (λ (x : ℕ). TablesKept (s .«track_count») x (getD (begun .places) routeCountPlace 0) (begun .places) (on .places) (a .levels) (on .levels) (a .amplitudes) (on .amplitudes)) (counts .sends)
       (subst (λ (x : ℕ). TablesKept x (getD (begun .places) sendCountPlace 0) (getD (begun .places) routeCountPlace 0) (begun .places) (on .places) (a .levels) (on .levels) (a .amplitudes) (on .amplitudes)) (counts .tracks)
-      (mixer-kept (chunkSeconds s k) later begun (begun-agrees .trackRoom))))
+      (mixer-kept dt later begun (begun-agrees .trackRoom))))
 
-  pub chunk-clocks : chunkDone s k m .clocks ≡ later
-  unfolding chunkDone soundsPlayed inChunk mixerUpdate
-  chunk-clocks = refl
-
-  -- a mixer that stands still stays so
-  steady-done : mixerSteady s m ≡ true → chunkDone s k m ≡ soundsPlayed s frames (withClocks later m)
-  unfolding chunkDone inChunk
-  steady-done e = ap (soundsPlayed s frames) (still-update s m c (chunkSeconds s k) ok (h .inside) e)
-
-  steady-played : mixerSteady s m ≡ true → mixerSteady s (soundsPlayed s frames (withClocks later m)) ≡ true
-  unfolding mixerSteady soundsPlayed withClocks afterRun
-  steady-played e = e
-
-  pub chunk-steady : mixerSteady s m ≡ true → mixerSteady s (chunkDone s k m) ≡ true
-  chunk-steady e = ap (mixerSteady s) (steady-done e) ∙ steady-played e
-
-  module _ (still : Bool) (up : Updated s base m (chunkSeconds s k) (moving still)) where
+  module _ (still : Bool) (c' : ℕ) (next : Mixer) (up : Updated s base m c' next (moving still)) where
     abbrev moved : Arrays
     moved = moving still
 
@@ -185,20 +164,6 @@ module _ (s : Scene) (base m : Mixer) (c : ℕ) (a : Arrays) (l l' l'' : List �
     moved-links : LinksOf (arraysChunk moved) l l' l''
     moved-links = links-kept (a .places) (moved .places) (a .levels) (moved .levels) (a .amplitudes) (moved .amplitudes) moved-owners (h .links)
 
-    abbrev next : Mixer
-    next = inChunk s k m
-
-    next-ok : MixerOk s (suc c) next
-    next-ok = in-chunk-ok s ok k c m (h .inside)
-
-    next-state : next ≡ mixerOver (next .clocks) (next .played) moved base
-    unfolding inChunk mixerUpdate
-    next-state = up .state
-
-    next-played : next .played ≡ m .played
-    unfolding inChunk mixerUpdate
-    next-played = refl
-
     moved-counts : CountsOf s (moved .places)
     moved-counts =
         record {
@@ -209,33 +174,37 @@ module _ (s : Scene) (base m : Mixer) (c : ℕ) (a : Arrays) (l l' l'' : List �
 
     shows : LinesShow s next (moved .places) (moved .levels) (moved .amplitudes)
     shows =
-        lines-show s next base moved moved-counts next-state (le-trans (ok .trackCount) (le-trans (omega arith) (le-of-eq (sym (next-ok .trackPlaces))))) (le-trans (ok .sendCount) (le-of-eq (sym (next-ok .sendPlaces)))) (le-trans (ok .routeCount) (le-of-eq (sym (next-ok .routePlaces))))
+        lines-show s next base moved moved-counts (up .state) (le-trans (ok .trackCount) (le-trans (omega arith) (le-of-eq (sym (up .inside .trackPlaces))))) (le-trans (ok .sendCount) (le-of-eq (sym (up .inside .sendPlaces)))) (le-trans (ok .routeCount) (le-of-eq (sym (up .inside .routePlaces))))
         (up .amplitudes)
 
     -- what is mixed
     chunk-is : arraysChunk moved ≡ chunkOf s frames next
-    chunk-is = chunk-moved s ok m next frames (begun .places) (moved .places) (a .levels) (moved .levels) (a .amplitudes) (moved .amplitudes) (h .stands .same frames) (kept still) shows next-played
+    chunk-is = chunk-moved s ok m next frames (begun .places) (moved .places) (a .levels) (moved .levels) (a .amplitudes) (moved .amplitudes) (h .stands .same frames) (kept still) shows (up .played)
 
     moved-stands : Stands s next (moved .places) (moved .levels) (moved .amplitudes)
-    moved-stands = stands-moved s m next (begun .places) (moved .places) (a .levels) (moved .levels) (a .amplitudes) (moved .amplitudes) ok begun-stands (up .sized .places) (kept still) shows next-played
+    moved-stands = stands-moved s m next (begun .places) (moved .places) (a .levels) (moved .levels) (a .amplitudes) (moved .amplitudes) ok begun-stands (up .sized .places) (kept still) shows (up .played)
 
     -- after it
     abbrev later-arrays : Arrays
     later-arrays = withPlaces (advanced frames (moved .places)) moved
 
-    done-state : chunkDone s k m ≡ mixerOver (chunkDone s k m .clocks) (chunkDone s k m .played) later-arrays base
-    unfolding chunkDone soundsPlayed mixerOver
+    done-state : soundsPlayed s frames next ≡ mixerOver (soundsPlayed s frames next .clocks) (soundsPlayed s frames next .played) later-arrays base
+    unfolding soundsPlayed mixerOver
     done-state =
         let played = playedOn (s .sounds) (s .«sound_count») (next .tracks) frames (next .played) in
-        ap (λ (x : Mixer). mixerOf (next .clocks) (x .«main_volume») (x .tracks) (x .sends) (x .routes) played) next-state
+        ap (λ (x : Mixer). mixerOf (next .clocks) (x .«main_volume») (x .tracks) (x .sends) (x .routes) played) (up .state)
         ∙ sym (over-places moved (advanced frames (moved .places)) (advanced-state s next frames (moved .places) (moved .levels) (moved .amplitudes) ok moved-stands) (le-trans (le-of-eq (moved-counts .tracks)) (ok .trackCount)) (next .clocks) played base)
 
-    pub chunk-stands : StandsFor s base (chunkDone s k m) (suc c) (arraysAfter still frames (chunkSeconds s k) later a) l l' l''
-    unfolding arraysAfter arraysIn chunkDone soundsPlayed playedOn
+    -- before the sounds have played
+    pub moved-for : StandsFor s base next c' moved l l' l''
+    moved-for = record { inside = up .inside; stands = moved-stands; sized = up .sized; amplitudes = up .long; state = up .state; links = moved-links }
+
+    pub chunk-stands : StandsFor s base (soundsPlayed s frames next) c' (arraysAfter still frames dt later a) l l' l''
+    unfolding arraysAfter arraysIn soundsPlayed playedOn
     chunk-stands =
         record {
-          inside = chunk-done-ok s ok k c m (h .inside);
-          stands = stands-on s next (moved .places) (moved .levels) (moved .amplitudes) ok moved-stands frames (next-ok .soundPlaces) (next-ok .played);
+          inside = played-ok s c' frames next ok (up .inside);
+          stands = stands-on s next (moved .places) (moved .levels) (moved .amplitudes) ok moved-stands frames (up .inside .soundPlaces) (up .inside .played);
           sized = record { places = sounds-moved s next frames (moved .places) (moved .levels) (moved .amplitudes) ok moved-stands .kept ∙ up .sized .places; levels = up .sized .levels; state = up .sized .state };
           amplitudes = up .long;
           state = done-state;
@@ -243,23 +212,23 @@ module _ (s : Scene) (base m : Mixer) (c : ℕ) (a : Arrays) (l l' l'' : List �
         }
 
     module _ (samples : Recordings) where
-      pub chunk-heard : chunkSamples s samples k next ≡ mixedSamples (s .head .channels) frames (arraysChunk (arraysIn still frames (chunkSeconds s k) later a)) samples
-      unfolding chunkSamples mixedSamples arraysIn
-      chunk-heard = ap (λ (x : Chunk). mixedSamples (s .head .channels) frames x samples) (sym chunk-is)
+      pub chunk-heard : mixedSamples (s .head .channels) frames (arraysChunk (arraysIn still frames dt later a)) samples ≡ mixedSamples (s .head .channels) frames (chunkOf s frames next) samples
+      unfolding arraysIn
+      chunk-heard = ap (λ (x : Chunk). mixedSamples (s .head .channels) frames x samples) chunk-is
 
-      pub chunk-asks : SamplesOk s samples → ChunkAsks still frames (chunkSeconds s k) later a samples l l' l''
-      unfolding arraysIn chunkOf clocksUpdated
-      chunk-asks there =
+      pub chunk-asks : SamplesOk s samples → InAnHour dt → T (unsigned dt) → later .count ≤ clockLines → frames ≤ chunkFramesMost → ChunkAsks still frames dt later a samples l l' l''
+      unfolding arraysIn chunkOf
+      chunk-asks there hour w few most =
           record {
-            hour = seconds-in-an-hour s k ok;
-            few = le-trans (h .inside .clocks .few) (omega arith);
+            hour = hour;
+            few = few;
             sized = h .sized;
             parents = tracks-there;
             named = routes-there;
             sends = begun-agrees .sendRoom;
-            heard = routes-heard-on;
+            heard = routes-heard-on w;
             long = up .sized .places;
-            mixes = subst (λ (x : Chunk). ChunkOk x samples) (sym chunk-is) (chunk-ok s samples (suc c) frames next ok there next-ok (few-frames s k ok));
+            mixes = subst (λ (x : Chunk). ChunkOk x samples) (sym chunk-is) (chunk-ok s samples c' frames next ok there (up .inside) most);
             frames = ap (λ (x : Chunk). x .frames) chunk-is;
             links = moved-links;
             tracks = stands-there s next (moved .places) (moved .levels) (moved .amplitudes) ok moved-stands;

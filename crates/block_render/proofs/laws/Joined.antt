@@ -1,38 +1,51 @@
--- A block of a mixer that stands in arrays, cut as its head says: where nothing moves but clocks and sounds it is cut in longer chunks, and what is heard, and
--- what the arrays come to stand for, is the same. Assumes nothing.
+-- A block of a mixer that stands in arrays and that stands still for it: it has waited for the whole block at once, is cut in longer chunks, and what is
+-- heard, and what the arrays come to stand for, is the same. Assumes nothing.
 use mathlib.Core.Path.{_≡_, refl, sym, ap, _∙_, subst}
 use mathlib.Core.Bool.{Bool, true, false}
 use mathlib.Core.List.{List}
 use Prim.Native.Nat.{ℕ, zero, suc, _+_, _*_, _^_, _≤_, _<_}
-use native.Mathlib.Nat.{le-trans, mul-le-mul-left}
+use native.Mathlib.Nat.{le-trans, le-of-eq, mul-le-mul-left}
 use native.Mathlib.Omega.{arith}
 use lib.Dec.{lit≤}
+use lib.ListN.{getD}
+use lib.Seq.{set-getD}
 use lib.Ieee.{Float}
 use Rattle.recordings.specs.Recordings.{Recordings}
+use Rattle.laws.specs.Pieces.{pieces}
 use Rattle.limits.specs.Limits.{chunkFramesMost}
 use Rattle.clock.specs.declared.when_to_start.Clocks.{Clocks}
-use Rattle.clock.specs.WhenToStart.{CanMoveAll}
+use Rattle.rounding.specs.Duration.{nanosFromSecs}
 use Rattle.scene.specs.declared.scene.Head.{Head}
 use Rattle.scene.specs.declared.scene.Scene.{Scene}
 use Rattle.accepted.specs.SceneOk.{SceneOk, SamplesOk}
 use Rattle.mixer.specs.declared.mixer.Mixer.{Mixer}
 use Rattle.mixer.proofs.laws.MixerOk.{MixerOk}
 use Rattle.mixer_chunk.specs.ChunkOf.{chunkOf}
-use Rattle.mixer_laws.proofs.laws.Moved.{can-move}
-use Rattle.renderer.specs.Renderer.{chunkCount, chunksDone, blockSamples}
+use Rattle.renderer.specs.Renderer.{chunkCount, channelsOf, chunksDone, blockSamples}
 use Rattle.renderer.proofs.laws.Lengths.{count-covers, chunk-starts}
-use Rattle.renderer.proofs.laws.Renderer.{chunkSeconds, seconds-step, chunks-ok}
+use Rattle.renderer.proofs.laws.Renderer.{chunks-ok}
 use Rattle.moving_mixer.specs.State.{Arrays}
 use Rattle.moving_mixer.proofs.laws.Over.{mixerOver}
+use Rattle.steady_mixer.specs.Steady.{Ahead, ahead}
 use Rattle.steady_mixer.proofs.laws.MixerSteady.{mixerSteady, afterRun}
-use Rattle.steady_mixer.proofs.laws.Steady.{withClocks}
+use Rattle.steady_mixer.proofs.laws.Waited.{waited}
+use Rattle.steady_mixer.proofs.laws.Steady.{withClocks, EndsAfter, mixerMoved, still-moves}
+use Rattle.steady_mixer.proofs.laws.Lasting.{less, steady-lasts, waited-rests}
 use Rattle.still_blocks.proofs.laws.Joined.{joinedHead, joined, scene-joined, samples-joined, mixer-joined, steady-joined, chunk-joined}
-use Rattle.still_blocks.proofs.laws.Run.{joined-done}
-use Rattle.still_blocks.proofs.laws.Block.{joined-block}
-use Rattle.block_render.specs.Block.{blockHead, chunkArrays, blockHeard, BlockAsks, ClocksAsk}
+use Rattle.still_blocks.proofs.laws.Played.{before-all}
+use Rattle.still_blocks.proofs.laws.Run.{playedFrames, nanosBefore, Stays, played-waited, chunk-waited, block-run}
+use Rattle.still_blocks.proofs.laws.Block.{playedTo, block-still}
+use Rattle.moving_mixer.specs.Update.{mixerOn}
+use Rattle.still_chunks.proofs.laws.Chunks.{stillMixedFrame}
+use Rattle.frame.specs.Frame.{clamped}
+use Rattle.chunk.specs.declared.chunk.Chunk.{Chunk}
+use Rattle.chunk.specs.Flat.{framesPlace}
+use Rattle.block_render.specs.Advance.{framed}
+use Rattle.block_render.specs.Block.{withPlaces, chunkArrays, blockHeard, BlockAsks, ClocksAsk}
 use Rattle.block_render.proofs.laws.Stands.{Stands}
-use Rattle.block_render.proofs.laws.Chunk.{StandsFor}
-use Rattle.block_render.proofs.laws.Block.{stands-chunks, block-clocks, block-heard, block-asks}
+use Rattle.block_render.proofs.laws.Chunk.{StandsFor, moved-for}
+use Rattle.block_render.proofs.laws.Updated.{updated-moved}
+use Rattle.block_render.proofs.laws.Block.{clocks-move, still-stands, still-heard, still-asks}
 
 -- ---- longer chunks are fewer
 
@@ -81,66 +94,103 @@ module _ (s : Scene) (base m : Mixer) (a : Arrays) (l l' l'' : List ℕ) where
 
 -- ---- a block where all is still
 
-module _ (s : Scene) (base now : Mixer) (c : ℕ) (a : Arrays) (l l' l'' : List ℕ) (ok : SceneOk s) (h : StandsFor s base now c a l l' l'') (quiet : mixerSteady s now ≡ true) where
-  joined-quiet : true ≡ true → mixerSteady (joined s) now ≡ true
-  joined-quiet e = steady-joined s now ∙ quiet
+module _ (g : Ahead) (s : Scene) (base now : Mixer) (c : ℕ) (a : Arrays) (l l' l'' : List ℕ) (ok : SceneOk s) (h : StandsFor s base now c a l l' l'') (stays : Stays g s now) where
+  abbrev count : ℕ
+  count = chunkCount (s .head)
 
-  still-stands : StandsFor s base (chunksDone s (chunkCount (s .head)) now) (c + chunkCount (s .head)) (chunkArrays true (joinedHead (s .head)) (now .clocks) (chunkCount (joinedHead (s .head))) a) l l' l''
-  still-stands =
-      let count = chunkCount (joinedHead (s .head)) in
-      let after = chunksDone (joined s) count now in
-      let b = chunkArrays true (joinedHead (s .head)) (now .clocks) count a in
-      let done = chunksDone s (chunkCount (s .head)) now in
-      let same = joined-done s ok c now (h .inside) quiet in
-      subst (λ (m : Mixer). StandsFor s base m (c + chunkCount (s .head)) b l l' l'') (sym same)
-      (stands-back s base after b l l' l'' (c + count) (c + chunkCount (s .head)) (done .clocks)
-      (stands-chunks true (joined s) base now c a l l' l'' (scene-joined s ok) (stands-joined s base now a l l' l'' c h) joined-quiet count)
-      (subst (MixerOk s (c + chunkCount (s .head))) same (chunks-ok s ok (chunkCount (s .head)) c now (h .inside))))
+  abbrev nanos : ℕ
+  nanos = nanosBefore (s .head) count
 
-  module _ (samples : Recordings) (there : SamplesOk s samples) where
-    still-heard : blockSamples s samples now ≡ blockHeard true (joinedHead (s .head)) (now .clocks) a samples
-    still-heard =
-        joined-block s ok c now (h .inside) quiet samples there
-        ∙ block-heard true (joined s) base now c a l l' l'' (scene-joined s ok) (stands-joined s base now a l l' l'' c h) joined-quiet samples
+  -- it has waited for the whole block
+  abbrev passed : Mixer
+  passed = waited nanos s now
 
-    still-asks : c + chunkCount (s .head) ≤ 2 ^ 20 → BlockAsks true (joinedHead (s .head)) (now .clocks) a samples l l' l''
-    still-asks few =
-        block-asks true (joined s) base now c a l l' l'' (scene-joined s ok) (stands-joined s base now a l l' l'' c h) joined-quiet samples (samples-joined s samples there)
-        (omega (arith, few, joined-fewer (s .head) (ok .buffer)))
-
--- ---- the laws
-
-module _ (still : Bool) (s : Scene) (base now : Mixer) (c : ℕ) (a : Arrays) (l l' l'' : List ℕ) (ok : SceneOk s) (h : StandsFor s base now c a l l' l'') (quiet : still ≡ true → mixerSteady s now ≡ true) where
-  pub joined-stands : StandsFor s base (chunksDone s (chunkCount (s .head)) now) (c + chunkCount (s .head)) (chunkArrays still (blockHead still (s .head)) (now .clocks) (chunkCount (blockHead still (s .head))) a) l l' l''
-  unfolding blockHead
-  joined-stands = go still quiet
+  done-is : chunksDone s count now ≡ withClocks (chunksDone s count now .clocks) (afterRun (now .clocks) (playedFrames s now (s .head .block)) passed)
+  done-is = block-run g s ok c now (h .inside) stays ∙ clocks-only (chunksDone s count now .clocks) (now .clocks) (playedFrames s now (s .head .block)) passed
     where
-      go : (x : Bool) → (x ≡ true → mixerSteady s now ≡ true) → StandsFor s base (chunksDone s (chunkCount (s .head)) now) (c + chunkCount (s .head)) (chunkArrays x (blockHead x (s .head)) (now .clocks) (chunkCount (blockHead x (s .head))) a) l l' l''
-      go true q = still-stands s base now c a l l' l'' ok h (q refl)
-      go false q = stands-chunks false s base now c a l l' l'' ok h q (chunkCount (s .head))
+      clocks-only : (clocks others : Clocks) (played : List ℕ) (m : Mixer) → afterRun clocks played m ≡ withClocks clocks (afterRun others played m)
+      clocks-only clocks others played m = unfold withClocks afterRun in refl
 
-  pub clocks-ask : c + chunkCount (s .head) ≤ 2 ^ 20 → ClocksAsk (s .head) (now .clocks)
-  clocks-ask few =
-      record {
-        rate = ok .rate .1;
-        buffer = ok .buffer;
-        block = ok .block .1;
-        ticks = λ k b. subst (λ (y : Clocks). CanMoveAll y (chunkSeconds s k)) (block-clocks still s base now c a l l' l'' ok h quiet k) (can-move s (c + k) (chunkSeconds s k) (chunksDone s k now) (chunks-ok s ok k c now (h .inside)) (omega arith) (seconds-step s k ok));
-      }
+  done-ok : MixerOk s (c + count) (chunksDone s count now)
+  done-ok = chunks-ok s ok count c now (h .inside)
 
-  module _ (samples : Recordings) (there : SamplesOk s samples) where
-    pub joined-heard : blockSamples s samples now ≡ blockHeard still (blockHead still (s .head)) (now .clocks) a samples
-    unfolding blockHead
-    joined-heard = go still quiet
+  pub passed-ok : MixerOk s c passed
+  passed-ok = unwound (chunksDone s count now .clocks) (subst (MixerOk s (c + count)) (block-run g s ok c now (h .inside) stays) done-ok) (h .inside)
+    where
+      unwound : (clocks : Clocks) → MixerOk s (c + count) (afterRun clocks (playedFrames s now (s .head .block)) passed) → MixerOk s c now → MixerOk s c passed
+      unwound clocks r q = unfold afterRun waited in (record { clockCount = q .clockCount; clocks = q .clocks; main = r .main; trackPlaces = r .trackPlaces; sendPlaces = r .sendPlaces; routePlaces = r .routePlaces; soundPlaces = q .soundPlaces; tracks = r .tracks; sends = r .sends; routes = r .routes; played = q .played })
+
+  -- ---- the arrays after that
+
+  -- where something waits they have moved by the block's nanoseconds
+  pub wait-stands : (step : Float) → nanosFromSecs step ≡ nanos → EndsAfter (g .ends) (now .clocks) → StandsFor s base passed c (mixerOn step (now .clocks) a) l l' l''
+  wait-stands step is early =
+      let n = getD (a .places) framesPlace 0 in
+      let clocks = now .clocks in
+      let few : nanosFromSecs step ≤ g .nanos = le-trans (le-of-eq is) (stays .enough) in
+      let next : mixerMoved s step clocks now ≡ passed = still-moves g s now c step clocks ok (h .inside) (stays .settled) (stays .still) few early ∙ own-clocks (nanosFromSecs step) ∙ ap (λ (d : ℕ). waited d s now) is in
+      subst (λ (x : Mixer). StandsFor s base x c (mixerOn step clocks a) l l' l'') next
+      (subst (λ (x : Arrays). StandsFor s base (mixerMoved s step clocks now) c (mixerOn step clocks x) l l' l'') (framed-same (a .places) n)
+      (moved-for s base now c a l l' l'' ok h n step clocks false c (mixerMoved s step clocks now) (updated-moved s base now c a l l' l'' ok h n step clocks c (subst (MixerOk s c) (sym next) passed-ok))))
+    where
+      own-clocks : (d : ℕ) → withClocks (now .clocks) (waited d s now) ≡ waited d s now
+      own-clocks d = unfold withClocks afterRun waited in refl
+
+      framed-same : (places : List ℕ) (n : ℕ) → withPlaces (framed (getD (a .places) framesPlace 0) (a .places)) a ≡ a
+      framed-same places n = unfold framed in ap (λ (p : List ℕ). withPlaces p a) (set-getD (a .places) framesPlace 0)
+
+  -- where nothing may wait they stay
+  pub rest-stands : g .waits ≡ false → StandsFor s base passed c a l l' l''
+  rest-stands e = subst (λ (x : Mixer). StandsFor s base x c a l l' l'') (sym (waited-rests (g .nanos) (g .ends) nanos s now (ap (λ (b : Bool). mixerSteady (ahead b (g .nanos) (g .ends)) s now) (sym e) ∙ stays .still))) h
+
+  -- ---- the block
+
+  module _ (x : Arrays) (k : StandsFor s base passed c x l l' l'') where
+    abbrev cut : Head
+    cut = joinedHead (s .head)
+
+    joined-for : StandsFor (joined s) base passed c x l l' l''
+    joined-for = stands-joined s base passed x l l' l'' c k
+
+    after-is : playedTo (joined s) passed (chunkCount cut) ≡ afterRun (now .clocks) (playedFrames s now (s .head .block)) passed
+    after-is =
+        ap (λ (n : ℕ). afterRun (passed .clocks) (playedFrames (joined s) passed n) passed) (before-all cut (lit≤ tt))
+        ∙ ap (λ (y : List ℕ). afterRun (passed .clocks) y passed) (played-joined passed (s .head .block) ∙ played-waited s now nanos (s .head .block))
+        ∙ same-clocks (playedFrames s now (s .head .block))
       where
-        go : (x : Bool) → (x ≡ true → mixerSteady s now ≡ true) → blockSamples s samples now ≡ blockHeard x (blockHead x (s .head)) (now .clocks) a samples
-        go true q = still-heard s base now c a l l' l'' ok h (q refl) samples there
-        go false q = block-heard false s base now c a l l' l'' ok h q samples
+        played-joined : (m : Mixer) (n : ℕ) → playedFrames (joined s) m n ≡ playedFrames s m n
+        played-joined m n = unfold playedFrames in refl
 
-    pub joined-asks : c + chunkCount (s .head) ≤ 2 ^ 20 → BlockAsks still (blockHead still (s .head)) (now .clocks) a samples l l' l''
-    unfolding blockHead
-    joined-asks few = go still quiet
-      where
-        go : (x : Bool) → (x ≡ true → mixerSteady s now ≡ true) → BlockAsks x (blockHead x (s .head)) (now .clocks) a samples l l' l''
-        go true q = still-asks s base now c a l l' l'' ok h (q refl) samples there few
-        go false q = block-asks false s base now c a l l' l'' ok h q samples there few
+        same-clocks : (played : List ℕ) → afterRun (passed .clocks) played passed ≡ afterRun (now .clocks) played passed
+        same-clocks played = unfold waited in refl
+
+    clocks-kept : {A : Type 0} (f : Clocks → A) → f (passed .clocks) ≡ f (now .clocks)
+    clocks-kept f = unfold waited in refl
+
+    pub joined-stands : StandsFor s base (chunksDone s count now) (c + count) (chunkArrays true cut (now .clocks) (chunkCount cut) x) l l' l''
+    joined-stands =
+        let b = chunkArrays true cut (passed .clocks) (chunkCount cut) x in
+        let played = afterRun (now .clocks) (playedFrames s now (s .head .block)) passed in
+        subst (λ (y : Arrays). StandsFor s base (chunksDone s count now) (c + count) y l l' l'') (clocks-kept (λ (y : Clocks). chunkArrays true cut y (chunkCount cut) x))
+        (subst (λ (m : Mixer). StandsFor s base m (c + count) b l l' l'') (sym done-is)
+        (stands-back s base played b l l' l'' c (c + count) (chunksDone s count now .clocks)
+        (subst (λ (m : Mixer). StandsFor (joined s) base m c b l l' l'') after-is (still-stands (joined s) base passed c x l l' l'' (scene-joined s ok) joined-for (chunkCount cut)))
+        (subst (MixerOk s (c + count)) done-is done-ok)))
+
+    module _ (samples : Recordings) (there : SamplesOk s samples) where
+      pub joined-heard : blockSamples s samples now ≡ blockHeard true cut (now .clocks) x samples
+      joined-heard =
+          block-still g s ok c now (h .inside) stays samples there
+          ∙ ap (λ (y : Chunk). pieces (λ j. channelsOf (s .head .channels) (clamped (stillMixedFrame y samples j))) (s .head .block)) (sym (chunk-joined s passed 0 ∙ chunk-waited nanos s 0 now))
+          ∙ sym (still-heard (joined s) base passed c x l l' l'' (scene-joined s ok) joined-for samples (samples-joined s samples there) (less nanos g) (steady-joined s passed (less nanos g) ∙ steady-lasts g nanos (stays .enough) s ok c now (h .inside) ∙ stays .still))
+          ∙ clocks-kept (λ (y : Clocks). blockHeard true cut y x samples)
+
+      pub joined-asks : c + count ≤ 2 ^ 20 → BlockAsks true cut (now .clocks) x samples l l' l''
+      joined-asks few =
+          subst (λ (y : Clocks). BlockAsks true cut y x samples l l' l'') (clocks-kept (λ (y : Clocks). y))
+          (still-asks (joined s) base passed c x l l' l'' (scene-joined s ok) joined-for samples (samples-joined s samples there) (omega (arith, few, joined-fewer (s .head) (ok .buffer))))
+
+-- ---- the clocks
+
+pub clocks-ask : (s : Scene) (now : Mixer) (c : ℕ) → SceneOk s → MixerOk s c now → c + chunkCount (s .head) ≤ 2 ^ 20 → ClocksAsk (s .head) (now .clocks)
+clocks-ask s now c ok within few = record { rate = ok .rate .1; buffer = ok .buffer; block = ok .block .1; ticks = clocks-move s ok c now within few }

@@ -12,7 +12,7 @@ use borrow.Author.Tests.{eqb-true, eqb-false}
 use Rattle.recordings.specs.Recordings.{Recordings}
 use Rattle.limits.specs.Limits.{blockFramesMost, channelsMost}
 use Rattle.laws.specs.Loop.{changed}
-use Rattle.laws.proofs.laws.Loop.{upto-suc, upto-next, upto-turn, changed-zero}
+use Rattle.laws.proofs.laws.Loop.{upto-suc, upto-next, upto-turn, upto-holds, changed-zero}
 use Rattle.laws.specs.Pieces.{pieces, begun}
 use Rattle.laws.proofs.laws.Pieces.{length-pieces, begun-end}
 use Rattle.clock.specs.declared.clock.Clock.{Clock}
@@ -38,6 +38,13 @@ pub no-clocks : (clocks : Clocks) (dt : Float) → clocks .count ≡ 0 → clock
 unfolding clocksUpdated
 no-clocks clocks dt e =
     ap (λ (l : List Clock). clocksWith l (clocks .count)) (sym (ap (λ (n : ℕ). changed (λ i c. updated c dt) n (clocks .clocks)) e ∙ changed-zero (λ i c. updated c dt) (clocks .clocks)))
+
+-- nor do the chunks of a block
+pub no-clocks-at : (h : Head) (k : ℕ) (clocks : Clocks) → clocks .count ≡ 0 → clocks ≡ chunkClocks h k clocks
+unfolding chunkClocks
+no-clocks-at h k clocks e =
+    upto-holds (λ (i : ℕ) (c : Clocks). clocks ≡ c) (λ j c. clocksUpdated c (chunkTime (h .rate) (chunkFrames h j))) k clocks refl
+    (λ i l c p. p ∙ no-clocks c (chunkTime (h .rate) (chunkFrames h i)) (ap (λ (x : Clocks). x .count) (sym p) ∙ e))
 
 length-mixed : (channels n : ℕ) (c : Chunk) (samples : Recordings) → length (mixedSamples channels n c samples) ≡ n * channels
 unfolding mixedSamples

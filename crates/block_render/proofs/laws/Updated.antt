@@ -1,6 +1,5 @@
 -- Moving the arrays moves the mixer that they stand for; where the mixer stands still they need not move. Assumes nothing.
 use mathlib.Core.Path.{_≡_, refl, sym, ap, _∙_}
-use mathlib.Core.Bool.{Bool, true, false, cond}
 use mathlib.Core.List.{List}
 use Prim.Native.Nat.{ℕ, _≤_, _<_}
 use native.Mathlib.Nat.{le-trans, le-of-eq}
@@ -10,26 +9,24 @@ use lib.Ieee.{Float, nan}
 use Rattle.limits.specs.Limits.{trackPlaces, sendLines, routeLines}
 use Rattle.decibels.specs.Decibels.{amplitude}
 use Rattle.clock.specs.declared.when_to_start.Clocks.{Clocks}
-use Rattle.clock.specs.WhenToStart.{clocksUpdated}
 use Rattle.chunk.specs.declared.chunk.Level.{Level}
 use Rattle.chunk.specs.Flat.{trackCountPlace, sendCountPlace, routeCountPlace, mainFrom}
 use Rattle.scene.specs.declared.scene.Scene.{Scene}
 use Rattle.accepted.specs.SceneOk.{SceneOk}
 use Rattle.mixer.specs.declared.mixer.Mixer.{Mixer}
-use Rattle.mixer.specs.Mixer.{mixerOf, mixerUpdate}
-use Rattle.renderer.specs.Renderer.{chunkFrames}
-use Rattle.renderer.proofs.laws.Renderer.{chunkSeconds}
+use Rattle.parameter.specs.Parameter.{parameterUpdate}
+use Rattle.mixer.specs.Mixer.{mixerOf, tracksUpdate, sendsUpdate, routesUpdate}
+use Rattle.mixer.proofs.laws.MixerOk.{MixerOk}
 use Rattle.block_render.specs.Advance.{framed}
 use Rattle.parameter_store.specs.Store.{parameterFrom, routeLevel}
-use Rattle.steady_mixer.proofs.laws.MixerSteady.{mixerSteady, afterRun}
-use Rattle.steady_mixer.proofs.laws.Steady.{withClocks, still-update}
+use Rattle.steady_mixer.proofs.laws.Steady.{mixerMoved}
 use Rattle.moving_mixer.proofs.laws.Over.{mixerOver}
 use Rattle.moving_mixer.specs.State.{Arrays, ArraysSized, mainNumber, mixerRoute}
 use Rattle.moving_mixer.specs.Update.{tracksOn, routesOn, sendsOn, levelledOn, mixerOn}
 use Rattle.moving_mixer.proofs.laws.Tracks.{TracksKept, tracks-kept}
 use Rattle.moving_mixer.proofs.laws.Routes.{Heard, RoutesKept, routes-kept, routes-heard}
 use Rattle.moving_mixer.proofs.laws.Sends.{LevelledKept, SendsKept, levelled-kept, sends-kept}
-use Rattle.moving_mixer.proofs.laws.Mixer.{mixer-moved}
+use Rattle.moving_mixer.proofs.laws.Mixer.{mixer-moves}
 use Rattle.block_render.specs.Block.{withPlaces}
 use Rattle.block_render.proofs.laws.Over.{base-long}
 use Rattle.block_render.proofs.laws.Chunk.{StandsFor, Updated, begun-agrees, begun-state, begun-sized, begun-amplitudes}
@@ -90,40 +87,41 @@ module _ (dt : Float) (clocks : Clocks) (a : Arrays) (sized : ArraysSized a) (tr
         heard-kept a₃ a₄ r (k₄ .amplitudes) (k₄ .route r b)
         (heard-kept a₂ a₃ r (k₃ .amplitudes) (k₃ .route r b) (routes-heard dt clocks a₁ (k₁ .sized .state) room₁ routes₁ r b (heard-kept a a₁ r (k₁ .amplitudes) (k₁ .route r b) h)))
 
--- ---- a chunk
+-- ---- arrays that stand for a mixer, as a chunk of so many frames begins
 
-module _ (s : Scene) (base m : Mixer) (c : ℕ) (a : Arrays) (l l' l'' : List ℕ) (ok : SceneOk s) (h : StandsFor s base m c a l l' l'') (k : ℕ) where
-  abbrev dt : Float
-  dt = chunkSeconds s k
-
-  abbrev clocks : Clocks
-  clocks = clocksUpdated (m .clocks) dt
-
+module _ (s : Scene) (base m : Mixer) (c : ℕ) (a : Arrays) (l l' l'' : List ℕ) (ok : SceneOk s) (h : StandsFor s base m c a l l' l'') (n : ℕ) (dt : Float) (clocks : Clocks) where
   abbrev begun : Arrays
-  begun = withPlaces (framed (chunkFrames (s .head) k) (a .places)) a
+  begun = withPlaces (framed n (a .places)) a
 
   is-begun : m ≡ mixerOver (m .clocks) (m .played) begun base
-  is-begun = begun-state s base m c a l l' l'' ok h k
+  is-begun = begun-state s base m c a l l' l'' ok h n dt clocks
 
-  -- nothing but the clocks has moved
-  still-state : withClocks clocks m ≡ mixerOver clocks (m .played) begun base
-  unfolding withClocks afterRun mixerOver
-  still-state = ap (λ (x : Mixer). mixerOf clocks (x .«main_volume») (x .tracks) (x .sends) (x .routes) (m .played)) is-begun
-
-  pub updated : (still : Bool) → (still ≡ true → mixerSteady s m ≡ true) → Updated s base m dt (cond still begun (mixerOn dt clocks begun))
-  updated true quiet =
+  -- nothing moves
+  pub updated-still : Updated s base m c m begun
+  updated-still =
       record {
-        sized = begun-sized s base m c a l l' l'' ok h k;
+        inside = h .inside;
+        sized = begun-sized s base m c a l l' l'' ok h n dt clocks;
         long = h .amplitudes;
-        state = still-update s m c dt ok (h .inside) (quiet refl) ∙ still-state;
-        amplitudes = begun-amplitudes s base m c a l l' l'' ok h k;
+        state = is-begun;
+        amplitudes = begun-amplitudes s base m c a l l' l'' ok h n dt clocks;
+        played = refl;
       }
-  updated false quiet =
-      let sized = begun-sized s base m c a l l' l'' ok h k in
-      let g = begun-agrees s base m c a l l' l'' ok h k in
+
+  -- all that moves, moves
+  pub updated-moved : (c' : ℕ) → MixerOk s c' (mixerMoved s dt clocks m) → Updated s base m c' (mixerMoved s dt clocks m) (mixerOn dt clocks begun)
+  unfolding mixerMoved
+  updated-moved c' inside =
+      let sized = begun-sized s base m c a l l' l'' ok h n dt clocks in
+      let g = begun-agrees s base m c a l l' l'' ok h n dt clocks in
       record {
+        inside = inside;
         sized = on-sized dt clocks begun sized (g .trackRoom) (g .sendRoom) (g .routeRoom);
         long = on-long dt clocks begun sized (g .trackRoom) (g .sendRoom) (g .routeRoom) (h .amplitudes);
-        state = ap (mixerUpdate s dt) is-begun ∙ sym (mixer-moved dt clocks s begun sized g base (le-of-eq (sym (base-long m base a (h .state) ∙ h .inside .trackPlaces))) (m .clocks) (m .played) refl);
-        amplitudes = λ r b. on-heard dt clocks begun sized (g .trackRoom) (g .sendRoom) (g .routeRoom) (h .amplitudes) r (le-trans b (ok .routeCount)) (begun-amplitudes s base m c a l l' l'' ok h k r b);
+        state =
+            ap (λ (x : Mixer). mixerOf clocks (parameterUpdate (x .«main_volume») dt clocks .parameter) (tracksUpdate (s .tracks) (s .«track_count») dt clocks (x .tracks)) (sendsUpdate (s .«send_count») dt clocks (x .sends))
+            (routesUpdate (s .routes) (s .«route_count») dt clocks (tracksUpdate (s .tracks) (s .«track_count») dt clocks (x .tracks)) (x .routes)) (m .played)) is-begun
+            ∙ sym (mixer-moves dt clocks s begun sized g base (le-of-eq (sym (base-long m base a (h .state) ∙ h .inside .trackPlaces))) (m .clocks) (m .played));
+        amplitudes = λ r b. on-heard dt clocks begun sized (g .trackRoom) (g .sendRoom) (g .routeRoom) (h .amplitudes) r (le-trans b (ok .routeCount)) (begun-amplitudes s base m c a l l' l'' ok h n dt clocks r b);
+        played = refl;
       }

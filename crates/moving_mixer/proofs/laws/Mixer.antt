@@ -155,10 +155,18 @@ module _ (dt : Float) (clocks : Clocks) (s : Scene) (a : Arrays) (sized : Arrays
   whole : {c : Clocks} {m m' : Parameter} {t t' : List Track} {n n' r r' : List Parameter} (played : List ℕ) → m' ≡ m → t' ≡ t → n' ≡ n → r' ≡ r → mixerOf c m' t' n' r' played ≡ mixerOf c m t n r played
   whole played p q u v = rw (p, q, u, v) refl
 
-  -- the clocks have moved already
-  pub mixer-moved : (before : Clocks) (played : List ℕ) → clocks ≡ clocksUpdated before dt → mixerOver clocks played (mixerOn dt clocks a) base ≡ mixerUpdate s dt (mixerOver before played a base)
-  unfolding mixerOver mixerOn mixerUpdate
-  mixer-moved before played e =
+  -- whatever the clocks are that it is moved with
+  pub mixer-moves : (before : Clocks) (played : List ℕ) → mixerOver clocks played (mixerOn dt clocks a) base
+      ≡ mixerOf clocks (parameterUpdate (mixerOver before played a base .«main_volume») dt clocks .parameter) (tracksUpdate (s .tracks) (s .«track_count») dt clocks (mixerOver before played a base .tracks)) (sendsUpdate (s .«send_count») dt clocks (mixerOver before played a base .sends))
+      (routesUpdate (s .routes) (s .«route_count») dt clocks (tracksUpdate (s .tracks) (s .«track_count») dt clocks (mixerOver before played a base .tracks)) (mixerOver before played a base .routes)) played
+  unfolding mixerOver mixerOn
+  mixer-moves before played =
       whole {c = clocks} played main-now (tracks-now ∙ tracks-moved) sends-now
       (routes-now ∙ routes-moved ∙ ap (λ (t : List Track). routesUpdate (s .routes) (s .«route_count») dt clocks t (routesOver a (base .routes))) tracks-moved)
+
+  -- the clocks have moved already
+  pub mixer-moved : (before : Clocks) (played : List ℕ) → clocks ≡ clocksUpdated before dt → mixerOver clocks played (mixerOn dt clocks a) base ≡ mixerUpdate s dt (mixerOver before played a base)
+  unfolding mixerOver mixerUpdate
+  mixer-moved before played e =
+      mixer-moves before played
       ∙ ap (λ (c : Clocks). mixerOf c (parameterUpdate (mixerMain a) dt c .parameter) (tracksUpdate (s .tracks) (s .«track_count») dt c (tracksOver a (base .tracks))) (sendsUpdate (s .«send_count») dt c (sendsOver a (base .sends))) (routesUpdate (s .routes) (s .«route_count») dt c (tracksUpdate (s .tracks) (s .«track_count») dt c (tracksOver a (base .tracks))) (routesOver a (base .routes))) played) e

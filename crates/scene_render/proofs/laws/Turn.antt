@@ -1,47 +1,69 @@
 -- A turn of the loop over a show's blocks: what holds before a block, once its orders are read, and before the next. Assumes nothing.
-use mathlib.Core.Path.{_≡_, refl, sym, ap, _∙_, subst}
-use mathlib.Core.Bool.{Bool, true}
-use mathlib.Core.List.{List, _++_}
-use Prim.Native.Nat.{ℕ, _+_, _-_, _*_, _≤_, _<_}
-use native.Mathlib.Nat.{le-trans, zero-mul}
+use mathlib.Core.Path.{_≡_, refl, sym, ap, ap₂, _∙_, subst}
+use mathlib.Core.Bool.{Bool, true, false, cond, _&&_, Bool·beq, true≢false, false≢true}
+use mathlib.Core.Logic.{_⊎_, ⊎-elim}
+use mathlib.Core.List.{List, [], _++_}
+use Prim.Native.Nat.{ℕ, zero, suc, _+_, _-_, _*_, _≤_, _<_}
+use native.Mathlib.Nat.{le-trans, le-of-eq, zero-mul}
 use native.Mathlib.Omega.{arith}
-use lib.ListN.{length, getD, take, drop}
+use lib.Dec.{T, eqb}
+use lib.ListN.{length, getD, take, drop, replicate, length-replicate}
+use lib.Seq.{set-getD}
+use borrow.Author.Tests.{eqb-true, eqb-false}
 use lib.Ieee.{Float}
 use Rattle.recordings.specs.Recordings.{Recordings}
-use Rattle.limits.specs.Limits.{sendLines, orderLines}
+use Rattle.limits.specs.Limits.{clockLines, trackPlaces, sendLines, routeLines, orderLines}
+use Rattle.rounding.specs.Duration.{InAnHour, nanosFromSecs}
+use Rattle.decibels.specs.declared.decibels.Decibels.{Decibels}
+use Rattle.laws.proofs.laws.Unsigned.{unsigned}
+use Rattle.laws.proofs.laws.Loop.{changed-below}
 use Rattle.laws.specs.Pieces.{pieces, begun}
 use Rattle.laws.proofs.laws.Pieces.{begun-zero}
 use Rattle.clock.specs.declared.when_to_start.Clocks.{Clocks}
 use Rattle.scene.specs.declared.scene.Head.{Head}
 use Rattle.scene.specs.declared.scene.OrderLine.{OrderLine}
 use Rattle.scene.specs.declared.scene.Scene.{Scene}
+use Rattle.accepted.specs.Lines.{trackLine, sendLine, routeLine, absentTrackLine, absentRouteLine}
 use Rattle.accepted.specs.SceneOk.{SceneOk, SamplesOk}
-use Rattle.chunk.specs.Flat.{sendCountPlace}
+use Rattle.chunk.specs.Flat.{framesPlace}
 use Rattle.mixer.specs.declared.mixer.Mixer.{Mixer}
-use Rattle.mixer.specs.Mixer.{mixerNew}
+use Rattle.scene_tables.proofs.laws.Every.{every-same}
+use Rattle.parameter.specs.declared.parameter.Parameter.{Parameter}
+use Rattle.parameter.specs.Parameter.{parameterNew}
+use Rattle.playback.specs.declared.playback_state_manager.PlaybackState.{PlaybackState}
+use Rattle.playback.specs.declared.playback_state_manager.PlaybackState.the-variants.{Playing, Pausing, Paused, WaitingToResume, Resuming, Stopping, Stopped}
+use Rattle.playback.specs.PlaybackStateManager.{isAdvancing}
+use Rattle.mixer.specs.declared.sub.Track.{Track}
+use Rattle.mixer.specs.Sub.{trackNew}
+use Rattle.mixer.specs.Mixer.{emptyTrack, emptyParameter, absentTrack, absentParameter, stateOf, parameterOf, liveAbove, tracksNew, sendsNew, routesNew, mixerNew}
 use Rattle.mixer.proofs.laws.MixerOk.{MixerOk}
 use Rattle.mixer.specs.Orders.{mixerOrdered}
-use Rattle.renderer.specs.Renderer.{chunkCount, chunksDone, mixerAt}
-use Rattle.renderer.proofs.laws.Renderer.{chunks-few}
+use Rattle.renderer.specs.Renderer.{chunkCount, chunksDone, mixerAt, blockSamples}
+use Rattle.renderer.proofs.laws.Renderer.{chunks-few, chunks-ok, seconds-in-an-hour}
 use Rattle.parameter_store.specs.Store.{Numbers, numbers, kindsSize, countsSize, shortsSize, valuesSize, timesSize}
 use Rattle.moving_mixer.specs.State.{Arrays, arrays}
-use Rattle.moving_mixer.specs.Update.{TracksThere, RoutesThere}
+use Rattle.moving_mixer.specs.Update.{mixerOn, TracksThere, RoutesThere, RoutesHeard}
 use Rattle.moving_mixer.proofs.laws.Mixer.{Agrees}
 use Rattle.mixer_orders.proofs.laws.OrdersOn.{ordersOn}
 use Rattle.mixer_orders.specs.Orders.{stateOrdered, OrdersThere}
 use Rattle.mixer_orders.proofs.laws.Ordered.{Full, orders-there}
-use Rattle.steady_mixer.proofs.laws.MixerSteady.{mixerSteady}
+use Rattle.steady_mixer.specs.Steady.{Ahead, ahead, parameterSteady, stateSteady, reachedSteady, steadyWhere, routeSteady}
+use Rattle.steady_mixer.proofs.laws.MixerSteady.{steadyTrack, steadyRoute, steadySend, mixerSteady}
+use Rattle.steady_mixer.proofs.laws.Settled.{Settled, SettledTrack, SettledMixer}
+use Rattle.steady_mixer.proofs.laws.Steady.{EndsAfter}
+use Rattle.still_blocks.proofs.laws.Run.{nanosBefore, Stays, done-next, chunk-settles}
 use Rattle.steady_mixer.specs.Arrays.{arraysSteady, LevelsIn}
 use Rattle.steady_mixer.proofs.laws.Arrays.{arrays-steady, levels-in}
-use Rattle.block_render.specs.Block.{blockHead, chunkClocks, chunkArrays, blockHeard, BlockAsks, ClocksAsk}
-use Rattle.block_render.proofs.laws.Chunk.{StandsFor, agrees-of}
-use Rattle.block_render.proofs.laws.Block.{block-clocks}
-use Rattle.block_render.proofs.laws.Joined.{joined-stands, joined-heard, joined-asks, clocks-ask}
-use Rattle.scene_render.specs.Show.{nextOrders, Begins}
+use Rattle.block_render.specs.Advance.{framed}
+use Rattle.block_render.specs.Block.{blockHead, chunkClocks, chunkArrays, blockHeard, BlockAsks, blockNanos, NanosAsk, ClocksAsk}
+use Rattle.block_render.proofs.laws.Chunk.{StandsFor, agrees-of, routes-heard-on}
+use Rattle.block_render.proofs.laws.Block.{block-clocks, moving-stands, moving-heard, moving-asks}
+use Rattle.block_render.proofs.laws.Joined.{wait-stands, rest-stands, joined-stands, joined-heard, joined-asks, clocks-ask}
+use Rattle.scene_render.specs.Show.{nextOrders, blockRests, blockWaits, blockStill, arraysWaited, blockAfter, blockOut, BlockReady, Begins}
 use Rattle.scene_render.proofs.laws.Orders.{NextFrom, next-first, next-read, next-on, none-read}
 use Rattle.scene_render.proofs.laws.Start.{begins-stand}
 use Rattle.scene_render.proofs.laws.Ordered.{base-full, ordered-clocks, stands-ordered}
-use Rattle.scene_render.proofs.laws.Blocks.{showPiece, show-turn, mixer-start, mixer-next}
+use Rattle.scene_render.proofs.laws.Blocks.{showPiece, show-turn, mixer-start, mixer-next, count-positive}
 
 -- the mixer of block b, its orders read
 abbrev ordered : Scene → ℕ → Mixer
@@ -53,13 +75,83 @@ pub record Before (s : Scene) (b next : ℕ) (moved : Clocks) (a : Arrays) (l l'
   pub stands : StandsFor s (mixerNew s) (mixerAt s b) (b * chunkCount (s .head)) a l l' l''
   pub clocks : moved ≡ mixerAt s b .clocks
   pub orders : NextFrom s b next
+  pub settled : SettledMixer s (mixerAt s b)
 
--- once its orders are read
-pub record Read (s : Scene) (b next : ℕ) (moved : Clocks) (a : Arrays) (l l' l'' : List ℕ) : Type 0 where
+-- once its orders are read, if it has some
+pub record Read (s : Scene) (b next : ℕ) (ordered : Bool) (moved : Clocks) (a : Arrays) (l l' l'' : List ℕ) : Type 0 where
   pub inside : b < s .head .blocks
   pub stands : StandsFor s (mixerNew s) (mixerOrdered s b (mixerAt s b)) (b * chunkCount (s .head)) a l l' l''
   pub clocks : moved ≡ mixerOrdered s b (mixerAt s b) .clocks
   pub orders : NextFrom s (b + 1) next
+  pub settled : ordered ≡ false → SettledMixer s (mixerOrdered s b (mixerAt s b))
+
+-- ---- motions that have settled
+
+-- a new parameter rests
+new-rests : (v : Decibels) → Settled (parameterNew v)
+unfolding parameterNew
+new-rests v e = absurd (true≢false e)
+
+new-track : (v : Decibels) → SettledTrack (trackNew v)
+unfolding trackNew
+new-track v = record { volume = λ r. absurd (false≢true r); fade = λ r. absurd (false≢true r) }
+
+new-settled : (s : Scene) → SceneOk s → SettledMixer s (mixerNew s)
+unfolding mixerNew sendsNew tracksNew routesNew
+new-settled s ok =
+    record {
+      main = new-rests (s .head .volume);
+      sends = λ i b. subst Settled (sym (changed-below (λ i x. parameterNew (sendLine s i .volume)) (s .«send_count») (replicate sendLines emptyParameter) i absentParameter b (le-trans b (le-trans (ok .sendCount) (le-of-eq (sym (length-replicate sendLines emptyParameter))))))) (new-rests (sendLine s i .volume));
+      tracks = λ t b. subst SettledTrack (sym (changed-below (λ t x. trackNew (trackLine s t .volume)) (s .«track_count») (replicate trackPlaces emptyTrack) t absentTrack b (le-trans b (le-trans (ok .trackCount) (le-of-eq (sym (length-replicate trackPlaces emptyTrack))))))) (new-track (trackLine s t .volume));
+      routes = λ r b e. subst Settled (sym (changed-below (λ r x. parameterNew (routeLine s r .volume)) (s .«route_count») (replicate routeLines emptyParameter) r absentParameter b (le-trans b (le-trans (ok .routeCount) (le-of-eq (sym (length-replicate routeLines emptyParameter))))))) (new-rests (routeLine s r .volume));
+    }
+
+-- after a block's last chunk
+block-settles : (s : Scene) → SceneOk s → (m : Mixer) (c : ℕ) → MixerOk s c m → SettledMixer s (chunksDone s (chunkCount (s .head)) m)
+block-settles s ok m c within = go (chunkCount (s .head)) (count-positive (s .head) (ok .buffer .0) (ok .block .0))
+  where
+    go : (n : ℕ) → 1 ≤ n → SettledMixer s (chunksDone s n m)
+    go zero l = absurd (omega arith)
+    go (suc k) l = subst (SettledMixer s) (sym (done-next s k m)) (chunk-settles s ok k (c + k) (chunksDone s k m) (chunks-ok s ok k c m within))
+
+-- where nothing may wait, how far is looked ahead does not matter
+module _ (n n' : ℕ) (e e' : List ℕ) where
+  state-always : (state : PlaybackState) → stateSteady (ahead false n' e') state ≡ stateSteady (ahead false n e) state
+  unfolding stateSteady
+  state-always Playing = refl
+  state-always Pausing = refl
+  state-always Paused = refl
+  state-always (WaitingToResume start tween) = refl
+  state-always Resuming = refl
+  state-always Stopping = refl
+  state-always Stopped = refl
+
+  parameter-always : (p : Parameter) → parameterSteady (ahead false n' e') p ≡ parameterSteady (ahead false n e) p
+  unfolding parameterSteady
+  parameter-always p = refl
+
+  track-always : (t : Track) (reached : Bool) → steadyWhere (ahead false n' e') t reached ≡ steadyWhere (ahead false n e) t reached
+  unfolding steadyWhere reachedSteady
+  track-always t true =
+      ap (λ (x : Bool). Bool·beq (t .reached) true && (x && (Bool·beq (t .live) (isAdvancing (t .playback .state)) && (parameterSteady (ahead false n' e') (t .volume) && parameterSteady (ahead false n' e') (t .playback .«volume_fade»))))) (state-always (t .playback .state))
+      ∙ ap₂ (λ (x y : Bool). Bool·beq (t .reached) true && (stateSteady (ahead false n e) (t .playback .state) && (Bool·beq (t .live) (isAdvancing (t .playback .state)) && (x && y)))) (parameter-always (t .volume)) (parameter-always (t .playback .«volume_fade»))
+  track-always t false = refl
+
+  route-always : (p : Parameter) (reached : Bool) → routeSteady (ahead false n' e') p reached ≡ routeSteady (ahead false n e) p reached
+  unfolding routeSteady
+  route-always p true = parameter-always p
+  route-always p false = refl
+
+  all-always : {x x' y y' z z' w w' : Bool} → x ≡ x' → y ≡ y' → z ≡ z' → w ≡ w' → (x && (y && (z && w))) ≡ (x' && (y' && (z' && w')))
+  all-always p q r t = rw (p, q, r, t) refl
+
+  rests-always : (s : Scene) (m : Mixer) → mixerSteady (ahead false n' e') s m ≡ mixerSteady (ahead false n e) s m
+  unfolding mixerSteady steadySend steadyTrack steadyRoute
+  rests-always s m =
+      all-always (parameter-always (m .«main_volume»))
+      (every-same (s .«send_count») (steadySend (ahead false n' e') (m .sends)) (steadySend (ahead false n e) (m .sends)) (λ i b. parameter-always (parameterOf (m .sends) i)))
+      (every-same (s .«track_count») (steadyTrack (ahead false n' e') (s .tracks) (m .tracks)) (steadyTrack (ahead false n e) (s .tracks) (m .tracks)) (λ t b. track-always (stateOf (m .tracks) t) (liveAbove (m .tracks) (getD (s .tracks) t absentTrackLine .parent))))
+      (every-same (s .«route_count») (steadyRoute (ahead false n' e') (s .routes) (m .tracks) (m .routes)) (steadyRoute (ahead false n e) (s .routes) (m .tracks) (m .routes)) (λ r b. route-always (parameterOf (m .routes) r) (stateOf (m .tracks) (getD (s .routes) r absentRouteLine .track - 1) .reached)))
 
 -- ---- the first block
 
@@ -72,6 +164,7 @@ show-begins {s} {a = a} {l = l} {l' = l'} {l'' = l''} ok there h =
           (subst (λ (n : ℕ). StandsFor s (mixerNew s) (mixerNew s) n a l l' l'') (sym (zero-mul (chunkCount (s .head)))) (begins-stand ok there h));
       clocks = h .clocks ∙ ap (λ (m : Mixer). m .clocks) (mixer-start s);
       orders = next-first s;
+      settled = subst (SettledMixer s) (mixer-start s) (new-settled s ok);
     }
 
 -- ---- orders
@@ -81,16 +174,17 @@ module _ {s : Scene} {b next : ℕ} {moved : Clocks} {a : Arrays} {l l' l'' : Li
   unfolding ordersOn
   read-is e = ap (arrays (a .places) (a .levels) (a .amplitudes)) (sym e)
 
-  orders-read : {n : Numbers} {next' : ℕ} → n ≡ stateOrdered (a .levels) (s .orders) (s .«order_count») b (a .state) → next' ≡ nextOrders (s .orders) (s .«order_count») (s .head .blocks) b → Read s b next' moved (arrays (a .places) (a .levels) (a .amplitudes) n) l l' l''
+  orders-read : {n : Numbers} {next' : ℕ} → n ≡ stateOrdered (a .levels) (s .orders) (s .«order_count») b (a .state) → next' ≡ nextOrders (s .orders) (s .«order_count») (s .head .blocks) b → Read s b next' true moved (arrays (a .places) (a .levels) (a .amplitudes) n) l l' l''
   orders-read e f =
       record {
         inside = more;
         stands = subst (λ (x : Arrays). StandsFor s (mixerNew s) (ordered s b) (b * chunkCount (s .head)) x l l' l'') (read-is e) (stands-ordered ok (h .stands) b);
         clocks = h .clocks ∙ sym (ordered-clocks ok (h .stands) b);
         orders = next-read s b more f;
+        settled = λ q. absurd (true≢false q);
       }
 
-  none-there : (b ≡ next → ⊥) → Read s b next moved a l l' l''
+  none-there : (b ≡ next → ⊥) → Read s b next false moved a l l' l''
   none-there other =
       let same = sym (none-read (h .orders) other (mixerAt s b)) in
       record {
@@ -98,18 +192,25 @@ module _ {s : Scene} {b next : ℕ} {moved : Clocks} {a : Arrays} {l l' l'' : Li
         stands = subst (λ (m : Mixer). StandsFor s (mixerNew s) m (b * chunkCount (s .head)) a l l' l'') same (h .stands);
         clocks = h .clocks ∙ ap (λ (m : Mixer). m .clocks) same;
         orders = next-on (h .orders) other;
+        settled = λ q. subst (SettledMixer s) same (h .settled);
       }
 
 pub numbers-by : {kinds kinds' counts counts' shorts shorts' : List ℕ} {values values' times times' : List Float} → kinds ≡ kinds' → counts ≡ counts' → shorts ≡ shorts' → values ≡ values' → times ≡ times' → numbers kinds counts shorts values times ≡ numbers kinds' counts' shorts' values' times'
 numbers-by a b c d e = rw (a, b, c, d, e) refl
 
-pub read-same : {s : Scene} {b next next' : ℕ} {moved : Clocks} {a : Arrays} {n : Numbers} {l l' l'' : List ℕ} → Read s b next moved a l l' l'' → n ≡ a .state → next' ≡ next → Read s b next' moved (arrays (a .places) (a .levels) (a .amplitudes) n) l l' l''
-read-same {s} {b} {next} {next'} {moved} {a} {n} {l} {l'} {l''} h e f =
-    subst (λ (i : ℕ). Read s b i moved (arrays (a .places) (a .levels) (a .amplitudes) n) l l' l'') (sym f) (subst (λ (x : Numbers). Read s b next moved (arrays (a .places) (a .levels) (a .amplitudes) x) l l' l'') (sym e) h)
+pub read-same : {s : Scene} {b next next' : ℕ} {ordered : Bool} {moved : Clocks} {a : Arrays} {n : Numbers} {l l' l'' : List ℕ} → Read s b next ordered moved a l l' l'' → n ≡ a .state → next' ≡ next → Read s b next' ordered moved (arrays (a .places) (a .levels) (a .amplitudes) n) l l' l''
+read-same {s} {b} {next} {next'} {ordered} {moved} {a} {n} {l} {l'} {l''} h e f =
+    subst (λ (i : ℕ). Read s b i ordered moved (arrays (a .places) (a .levels) (a .amplitudes) n) l l' l'') (sym f) (subst (λ (x : Numbers). Read s b next ordered moved (arrays (a .places) (a .levels) (a .amplitudes) x) l l' l'') (sym e) h)
 
 -- ---- the block
 
-module _ {s : Scene} {b next : ℕ} {moved : Clocks} {a : Arrays} {l l' l'' : List ℕ} (ok : SceneOk s) (h : Read s b next moved a l l' l'') where
+module _ {s : Scene} {b next : ℕ} {ordered : Bool} {moved : Clocks} {a : Arrays} {l l' l'' : List ℕ} (ok : SceneOk s) (h : Read s b next ordered moved a l l' l'') where
+  abbrev m : Mixer
+  m = mixerOrdered s b (mixerAt s b)
+
+  abbrev chunks : ℕ
+  chunks = b * chunkCount (s .head)
+
   agree : Agrees s (a .places)
   agree = agrees-of ok (h .stands)
 
@@ -117,9 +218,7 @@ module _ {s : Scene} {b next : ℕ} {moved : Clocks} {a : Arrays} {l l' l'' : Li
   full = base-full (h .stands)
 
   levels-there : LevelsIn (a .places) (a .levels) (a .state .values)
-  levels-there =
-      let m = ordered s b in
-      levels-in s a (mixerNew s) (m .clocks) (m .played) agree (full .tracks) (full .sends) (full .routes) (b * chunkCount (s .head)) (subst (λ (x : Mixer). MixerOk s (b * chunkCount (s .head)) x) (h .stands .state) (h .stands .inside))
+  levels-there = levels-in s a (mixerNew s) (m .clocks) (m .played) agree (full .tracks) (full .sends) (full .routes) chunks (subst (λ (x : Mixer). MixerOk s chunks x) (h .stands .state) (h .stands .inside))
 
   tracks-there : TracksThere (a .places)
   tracks-there = record { few = agree .trackRoom; parents = agree .earlier }
@@ -127,47 +226,148 @@ module _ {s : Scene} {b next : ℕ} {moved : Clocks} {a : Arrays} {l l' l'' : Li
   routes-there : RoutesThere (a .places)
   routes-there = record { few = agree .routeRoom; tracks = λ r k. (agree .named r k .0, le-trans (agree .named r k .1) (agree .trackRoom)) }
 
-  -- what the question whether all is still asks
-  pub still-asks : TracksThere (a .places) × (RoutesThere (a .places) × ((getD (a .places) sendCountPlace 0 ≤ sendLines) × ((length (a .state .kinds) ≡ kindsSize) × ((length (a .state .values) ≡ valuesSize) × LevelsIn (a .places) (a .levels) (a .state .values)))))
-  still-asks = (tracks-there, (routes-there, (agree .sendRoom, (h .stands .sized .state .kinds, (h .stands .sized .state .values, levels-there)))))
+  steady-mixer : (g : Ahead) → arraysSteady g a ≡ true → mixerSteady g s m ≡ true
+  steady-mixer g e = ap (mixerSteady g s) (h .stands .state) ∙ sym (arrays-steady g s a (mixerNew s) (m .clocks) (m .played) agree (full .tracks) (full .sends) (full .routes)) ∙ e
 
-  module _ {still : Bool} (e : still ≡ arraysSteady a) where
-    quiet : still ≡ true → mixerSteady s (ordered s b) ≡ true
-    quiet t =
-        let m = ordered s b in
-        ap (mixerSteady s) (h .stands .state) ∙ sym (arrays-steady s a (mixerNew s) (m .clocks) (m .played) agree (full .tracks) (full .sends) (full .routes)) ∙ sym e ∙ t
+  heard-there : (step : Float) → T (unsigned step) → RoutesHeard step moved (a .places) (a .state)
+  heard-there step w =
+      subst (λ (p : List ℕ). RoutesHeard step moved p (a .state)) (set-getD (a .places) framesPlace 0)
+      (unfold framed in routes-heard-on s (mixerNew s) m chunks a l l' l'' ok (h .stands) (getD (a .places) framesPlace 0) step moved w)
 
-    block-there : {samples : Recordings} → SamplesOk s samples → BlockAsks still (blockHead still (s .head)) moved a samples l l' l''
-    block-there {samples} there =
-        subst (λ (x : Clocks). BlockAsks still (blockHead still (s .head)) x a samples l l' l'') (sym (h .clocks))
-        (joined-asks still s (mixerNew s) (ordered s b) (b * chunkCount (s .head)) a l l' l'' ok (h .stands) quiet samples there (chunks-few s ok b (h .inside)))
+  -- ---- why the block stands still
+
+  module _ (nanos : ℕ) (step : Float) (counted : (nanos ≡ 0) ⊎ (nanos ≡ blockNanos (s .head))) where
+    abbrev whole : ℕ
+    whole = blockNanos (s .head)
+
+    nanos-all : nanosBefore (s .head) (chunkCount (s .head)) ≡ whole
+    unfolding nanosBefore blockNanos
+    nanos-all = refl
+
+    early-none : (clocks : Clocks) → EndsAfter [] clocks
+    early-none clocks t c d = absurd (omega (arith, c))
+
+    -- all rests, or something waits for longer than the block
+    abbrev Case : Bool → Bool → Type 0
+    Case true true = ⊥
+    Case true false = Stays (ahead false whole []) s m
+    Case false true = Stays (ahead true whole []) s m × (nanosFromSecs step ≡ whole)
+    Case false false = Unit {0}
+
+    rest-case : blockRests nanos a ≡ true → Case true false
+    unfolding blockRests
+    rest-case e =
+        record {
+          still = rests-always nanos whole [] [] s m ∙ steady-mixer (ahead false nanos []) e;
+          settled = λ q. absurd (false≢true q);
+          enough = le-of-eq nanos-all;
+          early = λ k b. early-none _;
+        }
+
+    wait-case : nanos ≡ whole → ordered ≡ false → nanosFromSecs step ≡ nanos → arraysSteady (ahead true nanos []) a ≡ true → Case false true
+    wait-case is none same e = (
+      record {
+        still = ap (λ (n : ℕ). mixerSteady (ahead true n []) s m) (sym is) ∙ steady-mixer (ahead true nanos []) e;
+        settled = λ q. h .settled none;
+        enough = le-of-eq nanos-all;
+        early = λ k b. early-none _;
+      },
+      same ∙ is,
+    )
+
+    case-waits : (o z q x w : Bool) → ordered ≡ o → eqb nanos 0 ≡ z → eqb (nanosFromSecs step) nanos ≡ q → arraysSteady (ahead true nanos []) a ≡ x → w ≡ cond o false (cond z false (cond q x false)) → Case false w
+    case-waits o z q x true e₁ e₂ e₃ e₄ f = go o z q x e₁ e₂ e₃ e₄ f
+      where
+        go : (o z q x : Bool) → ordered ≡ o → eqb nanos 0 ≡ z → eqb (nanosFromSecs step) nanos ≡ q → arraysSteady (ahead true nanos []) a ≡ x → true ≡ cond o false (cond z false (cond q x false)) → Case false true
+        go false false true true e₁ e₂ e₃ e₄ f = wait-case (⊎-elim (λ (n : nanos ≡ 0). absurd (eqb-false nanos 0 e₂ n)) (λ (n : nanos ≡ whole). n) counted) e₁ (eqb-true (nanosFromSecs step) nanos e₃) e₄
+        go false false true false e₁ e₂ e₃ e₄ f = absurd (true≢false f)
+        go false false false x e₁ e₂ e₃ e₄ f = absurd (true≢false f)
+        go false true q x e₁ e₂ e₃ e₄ f = absurd (true≢false f)
+        go true z q x e₁ e₂ e₃ e₄ f = absurd (true≢false f)
+    case-waits o z q x false e₁ e₂ e₃ e₄ f = tt
+
+    case-of : (rests waits : Bool) → rests ≡ blockRests nanos a → waits ≡ blockWaits rests ordered nanos step a → Case rests waits
+    unfolding blockWaits
+    case-of true true e f = absurd (true≢false f)
+    case-of true false e f = rest-case (sym e)
+    case-of false waits e f = case-waits ordered (eqb nanos 0) (eqb (nanosFromSecs step) nanos) (arraysSteady (ahead true nanos []) a) waits refl refl refl refl f
+
+    -- ---- the block
+
+    abbrev cutBy : Bool → Bool → Head
+    cutBy rests waits = blockHead (blockStill rests waits) (s .head)
+
+    -- the clocks are the mixer's
+    with-clocks : (P : Clocks → Type 0) → P (m .clocks) → P moved
+    with-clocks P p = subst P (sym (h .clocks)) p
+
+    asks-by : {samples : Recordings} → SamplesOk s samples → (rests waits : Bool) → Case rests waits → BlockAsks (blockStill rests waits) (cutBy rests waits) (m .clocks) (arraysWaited waits step (m .clocks) a) samples l l' l''
+    unfolding blockHead
+    asks-by there true true k = absurd k
+    asks-by {samples} there true false k = joined-asks (ahead false whole []) s (mixerNew s) m chunks a l l' l'' ok (h .stands) k a (rest-stands (ahead false whole []) s (mixerNew s) m chunks a l l' l'' ok (h .stands) k refl) samples there (chunks-few s ok b (h .inside))
+    asks-by {samples} there false true k = joined-asks (ahead true whole []) s (mixerNew s) m chunks a l l' l'' ok (h .stands) (k .0) (mixerOn step (m .clocks) a) (wait-stands (ahead true whole []) s (mixerNew s) m chunks a l l' l'' ok (h .stands) (k .0) step (k .1 ∙ sym nanos-all) (early-none (m .clocks))) samples there (chunks-few s ok b (h .inside))
+    asks-by {samples} there false false k = moving-asks s (mixerNew s) m chunks a l l' l'' ok (h .stands) samples there (chunks-few s ok b (h .inside))
+
+    heard-by : (samples : Recordings) → SamplesOk s samples → (rests waits : Bool) → Case rests waits → blockSamples s samples m ≡ blockHeard (blockStill rests waits) (cutBy rests waits) (m .clocks) (arraysWaited waits step (m .clocks) a) samples
+    unfolding blockHead
+    heard-by samples there true true k = absurd k
+    heard-by samples there true false k = joined-heard (ahead false whole []) s (mixerNew s) m chunks a l l' l'' ok (h .stands) k a (rest-stands (ahead false whole []) s (mixerNew s) m chunks a l l' l'' ok (h .stands) k refl) samples there
+    heard-by samples there false true k = joined-heard (ahead true whole []) s (mixerNew s) m chunks a l l' l'' ok (h .stands) (k .0) (mixerOn step (m .clocks) a) (wait-stands (ahead true whole []) s (mixerNew s) m chunks a l l' l'' ok (h .stands) (k .0) step (k .1 ∙ sym nanos-all) (early-none (m .clocks))) samples there
+    heard-by samples there false false k = moving-heard s (mixerNew s) m chunks a l l' l'' ok (h .stands) samples
+
+    stands-by : (rests waits : Bool) → Case rests waits → StandsFor s (mixerNew s) (chunksDone s (chunkCount (s .head)) m) (chunks + chunkCount (s .head)) (chunkArrays (blockStill rests waits) (cutBy rests waits) (m .clocks) (chunkCount (cutBy rests waits)) (arraysWaited waits step (m .clocks) a)) l l' l''
+    unfolding blockHead
+    stands-by true true k = absurd k
+    stands-by true false k = joined-stands (ahead false whole []) s (mixerNew s) m chunks a l l' l'' ok (h .stands) k a (rest-stands (ahead false whole []) s (mixerNew s) m chunks a l l' l'' ok (h .stands) k refl)
+    stands-by false true k = joined-stands (ahead true whole []) s (mixerNew s) m chunks a l l' l'' ok (h .stands) (k .0) (mixerOn step (m .clocks) a) (wait-stands (ahead true whole []) s (mixerNew s) m chunks a l l' l'' ok (h .stands) (k .0) step (k .1 ∙ sym nanos-all) (early-none (m .clocks)))
+    stands-by false false k = moving-stands s (mixerNew s) m chunks a l l' l'' ok (h .stands) (chunkCount (s .head))
 
     clocks-there : ClocksAsk (s .head) moved
-    clocks-there = subst (ClocksAsk (s .head)) (sym (h .clocks)) (clocks-ask still s (mixerNew s) (ordered s b) (b * chunkCount (s .head)) a l l' l'' ok (h .stands) quiet (chunks-few s ok b (h .inside)))
+    clocks-there = with-clocks (ClocksAsk (s .head)) (clocks-ask s m chunks ok (h .stands .inside) (chunks-few s ok b (h .inside)))
 
-    block-samples : (samples : Recordings) → SamplesOk s samples → {out : List Float} → out ≡ blockHeard still (blockHead still (s .head)) moved a samples → out ≡ showPiece s samples b
-    block-samples samples there q =
-        q ∙ ap (λ (x : Clocks). blockHeard still (blockHead still (s .head)) x a samples) (h .clocks) ∙ sym (joined-heard still s (mixerNew s) (ordered s b) (b * chunkCount (s .head)) a l l' l'' ok (h .stands) quiet samples there)
-
-    block-turn : {moved' : Clocks} {a' : Arrays} → moved' ≡ chunkClocks (s .head) (chunkCount (s .head)) moved → a' ≡ chunkArrays still (blockHead still (s .head)) moved (chunkCount (blockHead still (s .head))) a → Before s (b + 1) next moved' a' l l' l''
-    block-turn {moved'} {a'} p q =
-        let count = chunkCount (s .head) in
-        let cut = blockHead still (s .head) in
-        let m = ordered s b in
+    block-ready : {samples : Recordings} → SamplesOk s samples → InAnHour step → T (unsigned step) → BlockReady ordered nanos step (s .head) moved a samples l l' l''
+    block-ready {samples} there hour w =
         record {
-          inside = omega (arith, h .inside);
-          stands =
-              subst (λ (x : Mixer). StandsFor s (mixerNew s) x ((b + 1) * count) a' l l' l'') (mixer-next s b)
-              (subst (λ (x : Arrays). StandsFor s (mixerNew s) (chunksDone s count m) ((b + 1) * count) x l l' l'') (sym (q ∙ ap (λ (x : Clocks). chunkArrays still cut x (chunkCount cut) a) (h .clocks)))
-              (subst (λ (n : ℕ). StandsFor s (mixerNew s) (chunksDone s count m) n (chunkArrays still cut (m .clocks) (chunkCount cut) a) l l' l'') (next-count b count)
-              (joined-stands still s (mixerNew s) m (b * count) a l l' l'' ok (h .stands) quiet)));
-          clocks =
-              p ∙ ap (chunkClocks (s .head) count) (h .clocks) ∙ sym (block-clocks still s (mixerNew s) m (b * count) a l l' l'' ok (h .stands) quiet count) ∙ ap (λ (x : Mixer). x .clocks) (mixer-next s b);
-          orders = h .orders;
+          tracks = tracks-there;
+          routes = routes-there;
+          sends = agree .sendRoom;
+          sized = h .stands .sized;
+          levels = levels-there;
+          heard = heard-there step w;
+          hour = hour;
+          few = with-clocks (λ (x : Clocks). x .count ≤ clockLines) (h .stands .inside .clocks .few);
+          ticks = clocks-there;
+          asks = λ rests waits e f. with-clocks (λ (x : Clocks). BlockAsks (blockStill rests waits) (cutBy rests waits) x (arraysWaited waits step x a) samples l l' l'') (asks-by there rests waits (case-of rests waits e f));
         }
-      where
-        next-count : (b q : ℕ) → b * q + q ≡ (b + 1) * q
-        next-count b q = omega arith
+
+    module _ {rests waits : Bool} (e : rests ≡ blockRests nanos a) (f : waits ≡ blockWaits rests ordered nanos step a) where
+      abbrev still : Bool
+      still = blockStill rests waits
+
+      abbrev cut : Head
+      cut = cutBy rests waits
+
+      block-samples : (samples : Recordings) → SamplesOk s samples → {out : List Float} → out ≡ blockHeard still cut moved (arraysWaited waits step moved a) samples → out ≡ showPiece s samples b
+      block-samples samples there q =
+          q ∙ with-clocks (λ (x : Clocks). blockHeard still cut x (arraysWaited waits step x a) samples ≡ showPiece s samples b) (sym (heard-by samples there rests waits (case-of rests waits e f)))
+
+      block-turn : {moved' : Clocks} {a' : Arrays} → moved' ≡ chunkClocks (s .head) (chunkCount (s .head)) moved → a' ≡ chunkArrays still cut moved (chunkCount cut) (arraysWaited waits step moved a) → Before s (b + 1) next moved' a' l l' l''
+      block-turn {moved'} {a'} p q =
+          let count = chunkCount (s .head) in
+          record {
+            inside = omega (arith, h .inside);
+            stands =
+                subst (λ (x : Mixer). StandsFor s (mixerNew s) x ((b + 1) * count) a' l l' l'') (mixer-next s b)
+                (subst (λ (x : Arrays). StandsFor s (mixerNew s) (chunksDone s count m) ((b + 1) * count) x l l' l'') (sym (q ∙ with-clocks (λ (x : Clocks). chunkArrays still cut x (chunkCount cut) (arraysWaited waits step x a) ≡ chunkArrays still cut (m .clocks) (chunkCount cut) (arraysWaited waits step (m .clocks) a)) refl))
+                (subst (λ (n : ℕ). StandsFor s (mixerNew s) (chunksDone s count m) n (chunkArrays still cut (m .clocks) (chunkCount cut) (arraysWaited waits step (m .clocks) a)) l l' l'') (next-count b count)
+                (stands-by rests waits (case-of rests waits e f))));
+            clocks = p ∙ ap (chunkClocks (s .head) count) (h .clocks) ∙ sym (block-clocks s m count) ∙ ap (λ (x : Mixer). x .clocks) (mixer-next s b);
+            orders = h .orders;
+            settled = subst (SettledMixer s) (mixer-next s b) (block-settles s ok m chunks (h .stands .inside));
+          }
+        where
+          next-count : (b q : ℕ) → b * q + q ≡ (b + 1) * q
+          next-count b q = omega arith
 
 -- ---- the loop, which knows of the scene its head and its orders
 
@@ -208,27 +408,39 @@ module _ {s : Scene} {h : Head} {o : List OrderLine} {n : ℕ} {samples : Record
       inside : b < s .head .blocks
       inside = subst (λ (x : Head). b < x .blocks) (k .head) more
 
-      pub read-some : {x : Numbers} {next' : ℕ} → x ≡ stateOrdered (a .levels) o n b (a .state) → next' ≡ nextOrders o n (h .blocks) b → Read s b next' moved (arrays (a .places) (a .levels) (a .amplitudes) x) l l' l''
+      pub read-some : {x : Numbers} {next' : ℕ} → x ≡ stateOrdered (a .levels) o n b (a .state) → next' ≡ nextOrders o n (h .blocks) b → Read s b next' true moved (arrays (a .places) (a .levels) (a .amplitudes) x) l l' l''
       read-some e f = orders-read (k .ok) (r .before) inside (e ∙ rw (k .orders, k .count) refl) (f ∙ rw (k .orders, k .count, k .head) refl)
 
-      pub read-none : (b ≡ next → ⊥) → Read s b next moved a l l' l''
+      pub read-none : (b ≡ next → ⊥) → Read s b next false moved a l l' l''
       read-none other = none-there (k .ok) (r .before) inside other
 
-  module _ {b next : ℕ} {moved : Clocks} {a : Arrays} (r : Read s b next moved a l l' l'') {still : Bool} (e : still ≡ arraysSteady a) where
+  module _ {b next : ℕ} {ordered : Bool} {moved : Clocks} {a : Arrays} (r : Read s b next ordered moved a l l' l'') (nanos : ℕ) (step : Float) (counted : (nanos ≡ 0) ⊎ (nanos ≡ blockNanos h)) where
+    counts : (nanos ≡ 0) ⊎ (nanos ≡ blockNanos (s .head))
+    counts = subst (λ (x : Head). (nanos ≡ 0) ⊎ (nanos ≡ blockNanos x)) (k .head) counted
+
     -- what the block asks
-    pub asks-block : BlockAsks still (blockHead still h) moved a samples l l' l''
-    asks-block = subst (λ (x : Head). BlockAsks still (blockHead still x) moved a samples l l' l'') (sym (k .head)) (block-there (k .ok) r e (k .there))
+    pub ready-block : InAnHour step → T (unsigned step) → BlockReady ordered nanos step h moved a samples l l' l''
+    ready-block hour w = subst (λ (x : Head). BlockReady ordered nanos step x moved a samples l l' l'') (sym (k .head)) (block-ready (k .ok) r nanos step counts (k .there) hour w)
 
-    pub clocks-block : ClocksAsk h moved
-    clocks-block = subst (λ (x : Head). ClocksAsk x moved) (sym (k .head)) (clocks-there (k .ok) r e)
+    module _ {rests waits : Bool} (e : rests ≡ blockRests nanos a) (f : waits ≡ blockWaits rests ordered nanos step a) where
+      reached-next : {moved' : Clocks} {a' : Arrays} {out₀ out last : List Float} → moved' ≡ chunkClocks h (chunkCount h) moved → a' ≡ chunkArrays (blockStill rests waits) (blockHead (blockStill rests waits) h) moved (chunkCount (blockHead (blockStill rests waits) h)) (arraysWaited waits step moved a) → out ≡ begun (pieces (showPiece s samples) b) out₀
+          → last ≡ blockHeard (blockStill rests waits) (blockHead (blockStill rests waits) h) moved (arraysWaited waits step moved a) samples
+          → Reached s samples (b + 1) next moved' a' l l' l'' out₀ (take (b * (h .block * h .channels)) out ++ (last ++ drop (b * (h .block * h .channels) + h .block * h .channels - b * (h .block * h .channels)) (drop (b * (h .block * h .channels)) out)))
+      reached-next {moved'} {a'} {out₀} {out} {last} p q w heard =
+          let still = blockStill rests waits in
+          record {
+            before = block-turn (k .ok) r nanos step counts e f (subst (λ (x : Head). moved' ≡ chunkClocks x (chunkCount x) moved) (k .head) p) (subst (λ (x : Head). a' ≡ chunkArrays still (blockHead still x) moved (chunkCount (blockHead still x)) (arraysWaited waits step moved a)) (k .head) q);
+            written =
+                subst (λ (x : Head). take (b * (x .block * x .channels)) out ++ (last ++ drop (b * (x .block * x .channels) + x .block * x .channels - b * (x .block * x .channels)) (drop (b * (x .block * x .channels)) out)) ≡ begun (pieces (showPiece s samples) (b + 1)) out₀) (sym (k .head))
+                (show-turn s samples (k .ok) b out₀ w (block-samples (k .ok) r nanos step counts e f samples (k .there) (subst (λ (x : Head). last ≡ blockHeard still (blockHead still x) moved (arraysWaited waits step moved a) samples) (k .head) heard)));
+          }
 
-    pub reached-next : {moved' : Clocks} {a' : Arrays} {out₀ out last : List Float} → moved' ≡ chunkClocks h (chunkCount h) moved → a' ≡ chunkArrays still (blockHead still h) moved (chunkCount (blockHead still h)) a → out ≡ begun (pieces (showPiece s samples) b) out₀
-        → last ≡ blockHeard still (blockHead still h) moved a samples
+    -- the block as the definitions say it
+    pub reached-after : {moved' : Clocks} {a' : Arrays} {out₀ out last : List Float} → moved' ≡ chunkClocks h (chunkCount h) moved → a' ≡ blockAfter ordered nanos step h moved a → out ≡ begun (pieces (showPiece s samples) b) out₀ → last ≡ blockOut ordered nanos step h moved a samples
         → Reached s samples (b + 1) next moved' a' l l' l'' out₀ (take (b * (h .block * h .channels)) out ++ (last ++ drop (b * (h .block * h .channels) + h .block * h .channels - b * (h .block * h .channels)) (drop (b * (h .block * h .channels)) out)))
-    reached-next {moved'} {a'} {out₀} {out} {last} p q w heard =
-        record {
-          before = block-turn (k .ok) r e (subst (λ (x : Head). moved' ≡ chunkClocks x (chunkCount x) moved) (k .head) p) (subst (λ (x : Head). a' ≡ chunkArrays still (blockHead still x) moved (chunkCount (blockHead still x)) a) (k .head) q);
-          written =
-              subst (λ (x : Head). take (b * (x .block * x .channels)) out ++ (last ++ drop (b * (x .block * x .channels) + x .block * x .channels - b * (x .block * x .channels)) (drop (b * (x .block * x .channels)) out)) ≡ begun (pieces (showPiece s samples) (b + 1)) out₀) (sym (k .head))
-              (show-turn s samples (k .ok) b out₀ w (block-samples (k .ok) r e samples (k .there) (subst (λ (x : Head). last ≡ blockHeard still (blockHead still x) moved a samples) (k .head) heard)));
-        }
+    unfolding blockAfter blockOut
+    reached-after p q w heard = reached-next refl refl p q w heard
+
+-- what counting a block's nanoseconds asks
+pub nanos-ask : {s : Scene} → SceneOk s → NanosAsk (s .head)
+nanos-ask {s} ok = record { rate = ok .rate .1; buffer = ok .buffer; block = ok .block .1; hours = λ k b. seconds-in-an-hour s k ok }

@@ -26,7 +26,7 @@ use Rattle.moving_mixer.specs.State.{Arrays, volumePlace, fadePlace, mixerTrack
 use Rattle.moving_mixer.specs.Update.{liveBelow}
 use Rattle.moving_mixer.proofs.laws.Mixer.{Agrees}
 use Rattle.steady_mixer.proofs.laws.MixerSteady.{steadyTrack, steadyRoute, steadySend, mixerSteady}
-use Rattle.steady_mixer.specs.Steady.{parameterSteady, steadyWhere, routeSteady}
+use Rattle.steady_mixer.specs.Steady.{Ahead, parameterSteady, steadyWhere, routeSteady}
 use Rattle.steady_mixer.specs.Arrays.{sendRests, trackRests, routeRests, arraysSteady, LevelAt, LevelsIn}
 
 -- ---- a track's flags, by its row
@@ -69,16 +69,6 @@ module _ (s : Scene) (a : Arrays) (base : Mixer) (g : Agrees s (a .places)) (lon
   unfolding liveAbove
   live-row j line h l = live-by a line (track-row (line - 1) (omega arith))
 
-  send-same : (i : ℕ) → i < getD (a .places) sendCountPlace 0 → sendRests a i ≡ steadySend sends i
-  unfolding sendRests steadySend
-  send-same i h = ap parameterSteady (sym (send-row i h))
-
-  track-same : (j : ℕ) → j < getD (a .places) trackCountPlace 0 → trackRests a j ≡ steadyTrack (s .tracks) tracks j
-  unfolding trackRests steadyTrack
-  track-same j h =
-      ap₂ steadyWhere (sym (track-row j h))
-      (sym (live-row j (getD (a .places) j 0) h (g .earlier j h)) ∙ ap (liveAbove tracks) (sym (g .parents j h)))
-
   reached-row : (r : ℕ) → r < getD (a .places) routeCountPlace 0 → stateOf tracks (getD (s .routes) r absentRouteLine .track - 1) .reached ≡ reachedAt (a .state) (getD (a .places) (routeTracksFrom + r) 0 - 1)
   reached-row r h =
       let n = g .named r h in
@@ -86,28 +76,39 @@ module _ (s : Scene) (a : Arrays) (base : Mixer) (g : Agrees s (a .places)) (lon
       ap (λ (k : ℕ). stateOf tracks (k - 1) .reached) (g .routeTracks r h)
       ∙ reached-by a (line - 1) (track-row (line - 1) (omega (arith, n .0, n .1)))
 
-  route-same : (r : ℕ) → r < getD (a .places) routeCountPlace 0 → routeRests a r ≡ steadyRoute (s .routes) tracks routes r
-  unfolding routeRests steadyRoute
-  route-same r h = ap₂ routeSteady (sym (route-row r h)) (sym (reached-row r h))
+  module _ (h : Ahead) where
+    send-same : (i : ℕ) → i < getD (a .places) sendCountPlace 0 → sendRests h a i ≡ steadySend h sends i
+    unfolding sendRests steadySend
+    send-same i k = ap (parameterSteady h) (sym (send-row i k))
 
-  -- ---- tables
+    track-same : (j : ℕ) → j < getD (a .places) trackCountPlace 0 → trackRests h a j ≡ steadyTrack h (s .tracks) tracks j
+    unfolding trackRests steadyTrack
+    track-same j k =
+        ap₂ (steadyWhere h) (sym (track-row j k))
+        (sym (live-row j (getD (a .places) j 0) k (g .earlier j k)) ∙ ap (liveAbove tracks) (sym (g .parents j k)))
 
-  sends-same : every (getD (a .places) sendCountPlace 0) (sendRests a) ≡ every (s .«send_count») (steadySend sends)
-  sends-same = every-same (getD (a .places) sendCountPlace 0) (sendRests a) (steadySend sends) send-same ∙ ap (λ (c : ℕ). every c (steadySend sends)) (g .sends)
+    route-same : (r : ℕ) → r < getD (a .places) routeCountPlace 0 → routeRests h a r ≡ steadyRoute h (s .routes) tracks routes r
+    unfolding routeRests steadyRoute
+    route-same r k = ap₂ (routeSteady h) (sym (route-row r k)) (sym (reached-row r k))
 
-  tracks-same : every (getD (a .places) trackCountPlace 0) (trackRests a) ≡ every (s .«track_count») (steadyTrack (s .tracks) tracks)
-  tracks-same = every-same (getD (a .places) trackCountPlace 0) (trackRests a) (steadyTrack (s .tracks) tracks) track-same ∙ ap (λ (c : ℕ). every c (steadyTrack (s .tracks) tracks)) (g .tracks)
+    -- ---- tables
 
-  routes-same : every (getD (a .places) routeCountPlace 0) (routeRests a) ≡ every (s .«route_count») (steadyRoute (s .routes) tracks routes)
-  routes-same = every-same (getD (a .places) routeCountPlace 0) (routeRests a) (steadyRoute (s .routes) tracks routes) route-same ∙ ap (λ (c : ℕ). every c (steadyRoute (s .routes) tracks routes)) (g .routes)
+    sends-same : every (getD (a .places) sendCountPlace 0) (sendRests h a) ≡ every (s .«send_count») (steadySend h sends)
+    sends-same = every-same (getD (a .places) sendCountPlace 0) (sendRests h a) (steadySend h sends) send-same ∙ ap (λ (c : ℕ). every c (steadySend h sends)) (g .sends)
+
+    tracks-same : every (getD (a .places) trackCountPlace 0) (trackRests h a) ≡ every (s .«track_count») (steadyTrack h (s .tracks) tracks)
+    tracks-same = every-same (getD (a .places) trackCountPlace 0) (trackRests h a) (steadyTrack h (s .tracks) tracks) track-same ∙ ap (λ (c : ℕ). every c (steadyTrack h (s .tracks) tracks)) (g .tracks)
+
+    routes-same : every (getD (a .places) routeCountPlace 0) (routeRests h a) ≡ every (s .«route_count») (steadyRoute h (s .routes) tracks routes)
+    routes-same = every-same (getD (a .places) routeCountPlace 0) (routeRests h a) (steadyRoute h (s .routes) tracks routes) route-same ∙ ap (λ (c : ℕ). every c (steadyRoute h (s .routes) tracks routes)) (g .routes)
 
 all-same : {p q r p' q' r' : Bool} (m : Bool) → p ≡ p' → q ≡ q' → r ≡ r' → (m && (p && (q && r))) ≡ (m && (p' && (q' && r')))
 all-same m e f k = rw (e, f, k)
 
-pub arrays-steady : (s : Scene) (a : Arrays) (base : Mixer) (clocks : Clocks) (played : List ℕ) → Agrees s (a .places) → trackPlaces ≤ length (base .tracks) → sendLines ≤ length (base .sends) → routeLines ≤ length (base .routes) → arraysSteady a ≡ mixerSteady s (mixerOver clocks played a base)
+pub arrays-steady : (h : Ahead) (s : Scene) (a : Arrays) (base : Mixer) (clocks : Clocks) (played : List ℕ) → Agrees s (a .places) → trackPlaces ≤ length (base .tracks) → sendLines ≤ length (base .sends) → routeLines ≤ length (base .routes) → arraysSteady h a ≡ mixerSteady h s (mixerOver clocks played a base)
 unfolding arraysSteady mixerSteady mixerOver
-arrays-steady s a base clocks played g lt ls lr =
-    all-same (parameterSteady (mixerMain a)) (sends-same s a base g lt ls lr) (tracks-same s a base g lt ls lr) (routes-same s a base g lt ls lr)
+arrays-steady h s a base clocks played g lt ls lr =
+    all-same (parameterSteady h (mixerMain a)) (sends-same s a base g lt ls lr h) (tracks-same s a base g lt ls lr h) (routes-same s a base g lt ls lr h)
 
 -- ---- the levels that are compared are numbers
 

@@ -13,23 +13,23 @@ use Rattle.mixer.specs.declared.sub.Track.{Track}
 use Rattle.mixer.specs.declared.mixer.Mixer.{Mixer}
 use Rattle.mixer.specs.Mixer.{stateOf, parameterOf, liveAbove}
 use Rattle.accepted.specs.Lines.{absentTrackLine, absentRouteLine}
-use Rattle.steady_mixer.specs.Steady.{parameterSteady, steadyWhere, routeSteady}
+use Rattle.steady_mixer.specs.Steady.{Ahead, parameterSteady, steadyWhere, routeSteady}
 
-unfoldable pub steadyTrack : List TrackLine → List Track → ℕ → Bool
-steadyTrack lines tracks t = steadyWhere (stateOf tracks t) (liveAbove tracks (getD lines t absentTrackLine .parent))
+unfoldable pub steadyTrack : Ahead → List TrackLine → List Track → ℕ → Bool
+steadyTrack h lines tracks t = steadyWhere h (stateOf tracks t) (liveAbove tracks (getD lines t absentTrackLine .parent))
 
-unfoldable pub steadyRoute : List RouteLine → List Track → List Parameter → ℕ → Bool
-steadyRoute lines tracks routes r = routeSteady (parameterOf routes r) (stateOf tracks (getD lines r absentRouteLine .track - 1) .reached)
+unfoldable pub steadyRoute : Ahead → List RouteLine → List Track → List Parameter → ℕ → Bool
+steadyRoute h lines tracks routes r = routeSteady h (parameterOf routes r) (stateOf tracks (getD lines r absentRouteLine .track - 1) .reached)
 
-unfoldable pub steadySend : List Parameter → ℕ → Bool
-steadySend sends i = parameterSteady (parameterOf sends i)
+unfoldable pub steadySend : Ahead → List Parameter → ℕ → Bool
+steadySend h sends i = parameterSteady h (parameterOf sends i)
 
-unfoldable pub mixerSteady : Scene → Mixer → Bool
-mixerSteady s m =
-    parameterSteady (m .«main_volume»)
-    && (every (s .«send_count») (steadySend (m .sends))
-    && (every (s .«track_count») (steadyTrack (s .tracks) (m .tracks))
-    && every (s .«route_count») (steadyRoute (s .routes) (m .tracks) (m .routes))))
+unfoldable pub mixerSteady : Ahead → Scene → Mixer → Bool
+mixerSteady h s m =
+    parameterSteady h (m .«main_volume»)
+    && (every (s .«send_count») (steadySend h (m .sends))
+    && (every (s .«track_count») (steadyTrack h (s .tracks) (m .tracks))
+    && every (s .«route_count») (steadyRoute h (s .routes) (m .tracks) (m .routes))))
 
 unfoldable pub afterRun : Clocks → List ℕ → Mixer → Mixer
 afterRun clocks played m =

@@ -16,6 +16,7 @@ use Rattle.accepted.specs.SceneOk.{IndexOk, RouteOk, OrderOk, SceneOk, SamplesO
 use Rattle.mixer.specs.declared.mixer.Mixer.{Mixer}
 use Rattle.mixer.proofs.laws.MixerOk.{MixerOk}
 use Rattle.mixer_chunk.specs.ChunkOf.{chunkOf}
+use Rattle.steady_mixer.specs.Steady.{Ahead}
 use Rattle.steady_mixer.proofs.laws.MixerSteady.{mixerSteady}
 
 abbrev pub joinedHead : Head → Head
@@ -110,9 +111,9 @@ module _ (s : Scene) (m : Mixer) where
         played = h .played;
       }
 
-  pub steady-joined : mixerSteady (joined s) m ≡ mixerSteady s m
+  pub steady-joined : (g : Ahead) → mixerSteady g (joined s) m ≡ mixerSteady g s m
   unfolding mixerSteady
-  steady-joined = refl
+  steady-joined g = refl
 
   pub chunk-joined : (n : ℕ) → chunkOf (joined s) n m ≡ chunkOf s n m
   unfolding chunkOf

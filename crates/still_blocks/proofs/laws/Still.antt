@@ -32,7 +32,7 @@ use Rattle.mixer.specs.Mixer.{stateOf, parameterOf, liveAbove}
 use Rattle.mixer.proofs.laws.MixerOk.{MixerOk}
 use Rattle.mixer_chunk.specs.ChunkOf.{levelOf, chunkTrack, chunkSound, emptyLevel, emptyTrackRow, emptySoundRow, chunkTracks, chunkSends, chunkSounds, chunkOf}
 use Rattle.steady_mixer.proofs.laws.MixerSteady.{steadyTrack, steadyRoute, steadySend, mixerSteady}
-use Rattle.steady_mixer.specs.Steady.{sameLevel, parameterSteady, stateSteady, reachedSteady, steadyWhere}
+use Rattle.steady_mixer.specs.Steady.{Ahead, fadeAhead, sameLevel, parameterSteady, stateSteady, reachedSteady, steadyWhere}
 use Rattle.still_chunks.proofs.laws.Chunks.{StillChunk}
 
 -- ---- a value
@@ -57,28 +57,28 @@ equal-bits x y h k e = subst (λ (z : Float). eq x z ≡ true) same (equal-itsel
         ∙ ap (ofBits binary32) (eqb-true (toBits binary32 x) (toBits binary32 y) e)
         ∙ ofBits-toBits binary32 y (number y k .held)
 
-level-still : (p : Parameter) → ParameterIn valueRange p → parameterSteady p ≡ true → isSteady (levelOf p) ≡ true
+level-still : (h : Ahead) (p : Parameter) → ParameterIn valueRange p → parameterSteady h p ≡ true → isSteady (levelOf p) ≡ true
 unfolding parameterSteady sameLevel isSteady levelOf
-level-still p h e = equal-bits (p .«previous_raw_value» .0) (p .«raw_value» .0) (h .previous) (h .value) (and-right (p .stagnant) (sameLevel (p .«previous_raw_value») (p .«raw_value»)) e)
+level-still h p within e = equal-bits (p .«previous_raw_value» .0) (p .«raw_value» .0) (within .previous) (within .value) (and-left (sameLevel (p .«previous_raw_value») (p .«raw_value»)) _ e)
 
 -- ---- a track that is live
 
-abbrev LevelsSteady : Track → Type 0
-LevelsSteady t = (parameterSteady (t .volume) ≡ true) × (parameterSteady (t .playback .«volume_fade») ≡ true)
+abbrev LevelsSteady : Ahead → Track → Type 0
+LevelsSteady h t = (parameterSteady h (t .volume) ≡ true) × (parameterSteady (fadeAhead h (t .playback .state)) (t .playback .«volume_fade») ≡ true)
 
-reached-levels : (t : Track) → reachedSteady t ≡ true → LevelsSteady t
+reached-levels : (h : Ahead) (t : Track) → reachedSteady h t ≡ true → LevelsSteady h t
 unfolding reachedSteady
-reached-levels t e =
+reached-levels h t e =
     let flag = Bool·beq (t .live) (isAdvancing (t .playback .state)) in
-    let volume = parameterSteady (t .volume) in
-    let fade = parameterSteady (t .playback .«volume_fade») in
-    let both = and-right flag (volume && fade) (and-right (stateSteady (t .playback .state)) (flag && (volume && fade)) e) in
+    let volume = parameterSteady h (t .volume) in
+    let fade = parameterSteady (fadeAhead h (t .playback .state)) (t .playback .«volume_fade») in
+    let both = and-right flag (volume && fade) (and-right (stateSteady h (t .playback .state)) (flag && (volume && fade)) e) in
     (and-left volume fade both, and-right volume fade both)
 
-live-levels : (t : Track) (reached : Bool) → steadyWhere t reached ≡ true → t .live ≡ true → LevelsSteady t
+live-levels : (h : Ahead) (t : Track) (reached : Bool) → steadyWhere h t reached ≡ true → t .live ≡ true → LevelsSteady h t
 unfolding steadyWhere
-live-levels t true e h = reached-levels t (and-right (Bool·beq (t .reached) true) (reachedSteady t) e)
-live-levels t false e h = absurd (true≢false (sym h ∙ not-true (t .live) (and-right (Bool·beq (t .reached) false) (not (t .live)) e)))
+live-levels g t true e h = reached-levels g t (and-right (Bool·beq (t .reached) true) (reachedSteady g t) e)
+live-levels g t false e h = absurd (true≢false (sym h ∙ not-true (t .live) (and-right (Bool·beq (t .reached) false) (not (t .live)) e)))
 
 -- ---- the rows of a chunk
 
@@ -115,45 +115,45 @@ module _ (s : Scene) (ok : SceneOk s) (n : ℕ) (m : Mixer) where
 
 -- ---- the mixer's tests
 
-module _ (s : Scene) (m : Mixer) (e : mixerSteady s m ≡ true) where
+module _ (g : Ahead) (s : Scene) (m : Mixer) (e : mixerSteady g s m ≡ true) where
   abbrev restSends : Bool
-  restSends = every (s .«send_count») (steadySend (m .sends))
+  restSends = every (s .«send_count») (steadySend g (m .sends))
 
   abbrev restTracks : Bool
-  restTracks = every (s .«track_count») (steadyTrack (s .tracks) (m .tracks))
+  restTracks = every (s .«track_count») (steadyTrack g (s .tracks) (m .tracks))
 
   abbrev restRoutes : Bool
-  restRoutes = every (s .«route_count») (steadyRoute (s .routes) (m .tracks) (m .routes))
+  restRoutes = every (s .«route_count») (steadyRoute g (s .routes) (m .tracks) (m .routes))
 
-  main-rests : parameterSteady (m .«main_volume») ≡ true
+  main-rests : parameterSteady g (m .«main_volume») ≡ true
   unfolding mixerSteady
-  main-rests = and-left (parameterSteady (m .«main_volume»)) (restSends && (restTracks && restRoutes)) e
+  main-rests = and-left (parameterSteady g (m .«main_volume»)) (restSends && (restTracks && restRoutes)) e
 
   others-rest : (restSends && (restTracks && restRoutes)) ≡ true
   unfolding mixerSteady
-  others-rest = and-right (parameterSteady (m .«main_volume»)) (restSends && (restTracks && restRoutes)) e
+  others-rest = and-right (parameterSteady g (m .«main_volume»)) (restSends && (restTracks && restRoutes)) e
 
-  send-rests : (i : ℕ) → i < s .«send_count» → parameterSteady (parameterOf (m .sends) i) ≡ true
+  send-rests : (i : ℕ) → i < s .«send_count» → parameterSteady g (parameterOf (m .sends) i) ≡ true
   unfolding steadySend
-  send-rests i b = every-at (s .«send_count») (steadySend (m .sends)) i b (and-left restSends (restTracks && restRoutes) others-rest)
+  send-rests i b = every-at (s .«send_count») (steadySend g (m .sends)) i b (and-left restSends (restTracks && restRoutes) others-rest)
 
-  track-rests : (t : ℕ) → t < s .«track_count» → stateOf (m .tracks) t .live ≡ true → LevelsSteady (stateOf (m .tracks) t)
+  track-rests : (t : ℕ) → t < s .«track_count» → stateOf (m .tracks) t .live ≡ true → LevelsSteady g (stateOf (m .tracks) t)
   unfolding steadyTrack
   track-rests t b =
-      live-levels (stateOf (m .tracks) t) (liveAbove (m .tracks) (getD (s .tracks) t absentTrackLine .parent))
-      (every-at (s .«track_count») (steadyTrack (s .tracks) (m .tracks)) t b (and-left restTracks restRoutes (and-right restSends (restTracks && restRoutes) others-rest)))
+      live-levels g (stateOf (m .tracks) t) (liveAbove (m .tracks) (getD (s .tracks) t absentTrackLine .parent))
+      (every-at (s .«track_count») (steadyTrack g (s .tracks) (m .tracks)) t b (and-left restTracks restRoutes (and-right restSends (restTracks && restRoutes) others-rest)))
 
 -- ---- the chunk
 
 steady-as : {l k : Level} → l ≡ k → isSteady k ≡ true → isSteady l ≡ true
 steady-as e h = ap isSteady e ∙ h
 
-pub still-chunk : (s : Scene) (n c : ℕ) (m : Mixer) → SceneOk s → MixerOk s c m → mixerSteady s m ≡ true → StillChunk (chunkOf s n m)
+pub still-chunk : (g : Ahead) (s : Scene) (n c : ℕ) (m : Mixer) → SceneOk s → MixerOk s c m → mixerSteady g s m ≡ true → StillChunk (chunkOf s n m)
 unfolding chunkOf
-still-chunk s n c m ok h e =
+still-chunk g s n c m ok h e =
     record {
-      mainLevel = level-still (m .«main_volume») (h .main) (main-rests s m e);
-      sendLevels = λ i b. steady-as (send-row s ok n m i b) (level-still (parameterOf (m .sends) i) (h .sends i b) (send-rests s m e i b));
-      volumes = λ t b live. steady-as (row-volume s ok n m t b) (level-still (stateOf (m .tracks) t .volume) (h .tracks t b .volume) (track-rests s m e t b (sym (row-live s ok n m t b) ∙ live) .0));
-      fades = λ t b live. steady-as (row-fade s ok n m t b) (level-still (stateOf (m .tracks) t .playback .«volume_fade») (h .tracks t b .playback .fade) (track-rests s m e t b (sym (row-live s ok n m t b) ∙ live) .1));
+      mainLevel = level-still g (m .«main_volume») (h .main) (main-rests g s m e);
+      sendLevels = λ i b. steady-as (send-row s ok n m i b) (level-still g (parameterOf (m .sends) i) (h .sends i b) (send-rests g s m e i b));
+      volumes = λ t b live. steady-as (row-volume s ok n m t b) (level-still g (stateOf (m .tracks) t .volume) (h .tracks t b .volume) (track-rests g s m e t b (sym (row-live s ok n m t b) ∙ live) .0));
+      fades = λ t b live. steady-as (row-fade s ok n m t b) (level-still (fadeAhead g (stateOf (m .tracks) t .playback .state)) (stateOf (m .tracks) t .playback .«volume_fade») (h .tracks t b .playback .fade) (track-rests g s m e t b (sym (row-live s ok n m t b) ∙ live) .1));
     }

@@ -12,35 +12,37 @@ use Rattle.scene_tables.specs.Bytes.{every}
 use Rattle.scene_tables.proofs.laws.Every.{every-none, every-done}
 use Rattle.steady_mixer.proofs.laws.Tests.{line-fails, line-passes}
 use Rattle.moving_mixer.specs.State.{arrays}
+use Rattle.steady_mixer.specs.Steady.{ahead}
 use Rattle.steady_mixer.specs.Arrays.{routeRests}
 use Rattle.steady_mixer.proofs.steady.routes_steady.Statement.{statement}
 use Rattle.steady_mixer.proofs.steady.routes_steady.Tie as tie
 
 abbrev Inv-loop : tie.InvT-loop
-Inv-loop places kinds values count r₀ r =
-    (r ≤ count) × ((counts shorts : List ℕ) (levels times amplitudes : List Float) → every r (routeRests (arrays places levels amplitudes (numbers kinds counts shorts values times))) ≡ true)
+Inv-loop places kinds counts values waiting nanos ends count r₀ r =
+    (r ≤ count) × ((shorts : List ℕ) (levels times amplitudes : List Float) → every r (routeRests (ahead waiting nanos ends) (arrays places levels amplitudes (numbers kinds counts shorts values times))) ≡ true)
 
 abbrev μ-loop : tie.MeasureT-loop
-μ-loop places kinds values count r₀ r = count - r
+μ-loop places kinds counts values waiting nanos ends count r₀ r = count - r
 
 element-copy-out-count : tie.Need-element-copy-out-count Inv-loop μ-loop
 element-copy-out-count c = search needs
 
 loop-holds : tie.Need-loop-holds Inv-loop μ-loop
-loop-holds c = (zero-le, λ counts shorts levels times amplitudes. every-none _)
+loop-holds c = (zero-le, λ shorts levels times amplitudes. every-none _)
 
 route-steady-requires : tie.Need-route-steady-requires Inv-loop μ-loop
 route-steady-requires c κs =
-    let start = c .before .before .before .before .before in
+    let start = c .before .before .before .before .before .before .before in
     let r = c .before .loop .r in
     let h = c .loop-test .taken in
-    (omega (arith, h, start .pre .0 .few), (start .pre .0 .tracks r h, (start .pre .1 .0, (start .pre .1 .1 .0, start .pre .1 .1 .1 r h))))
+    (omega (arith, h, start .pre .0 .few), (start .pre .0 .tracks r h, (start .pre .1 .0, (start .pre .1 .1 .0, (start .pre .1 .1 .1 .0, start .pre .1 .1 .1 .1 r h)))))
 
 returns : tie.Need-returns Inv-loop μ-loop
 returns c =
-    let a = c .before .before .before .before .before .before .before .args in
-    λ counts shorts levels times amplitudes.
-    line-fails (routeRests (arrays (a .places .now) levels amplitudes (numbers (a .kinds .now) counts shorts (a .values .now) times))) (c .before .route-steady .ensures counts shorts levels times amplitudes) (c .before .before .loop-test .taken) (c .if1 .taken)
+    let a = c .before .before .before .before .before .before .before .before .before .args in
+    let h = ahead (a .waiting) (a .nanos) (a .ends .now) in
+    λ shorts levels times amplitudes.
+    line-fails (routeRests h (arrays (a .places .now) levels amplitudes (numbers (a .kinds .now) (a .counts .now) shorts (a .values .now) times))) (c .before .route-steady .ensures shorts levels times amplitudes) (c .before .before .loop-test .taken) (c .if1 .taken)
 
 add-r : tie.Need-add-r Inv-loop μ-loop
 add-r c = search needs
@@ -50,14 +52,15 @@ loop-less c = search needs
 
 loop-again : tie.Need-loop-again Inv-loop μ-loop
 loop-again c =
-    let a = c .before .before .before .before .before .before .before .args in
+    let a = c .before .before .before .before .before .before .before .before .before .args in
+    let h = ahead (a .waiting) (a .nanos) (a .ends .now) in
     let l = c .before .before .before .loop in
-    (add-one-le (c .before .before .loop-test .taken), λ counts shorts levels times amplitudes. line-passes (routeRests (arrays (a .places .now) levels amplitudes (numbers (a .kinds .now) counts shorts (a .values .now) times))) (c .before .route-steady .ensures counts shorts levels times amplitudes) (c .if1 .left) (l .inv .1 counts shorts levels times amplitudes))
+    (add-one-le (c .before .before .loop-test .taken), λ shorts levels times amplitudes. line-passes (routeRests h (arrays (a .places .now) levels amplitudes (numbers (a .kinds .now) (a .counts .now) shorts (a .values .now) times))) (c .before .route-steady .ensures shorts levels times amplitudes) (c .if1 .left) (l .inv .1 shorts levels times amplitudes))
 
 returns-2 : tie.Need-returns-2 Inv-loop μ-loop
 returns-2 c =
     let l = c .before .loop in
-    λ counts shorts levels times amplitudes. every-done _ _ _ (c .loop-test .left) (l .inv .0) (l .inv .1 counts shorts levels times amplitudes)
+    λ shorts levels times amplitudes. every-done _ _ _ (c .loop-test .left) (l .inv .0) (l .inv .1 shorts levels times amplitudes)
 
 pub routes-steady-spec : {M : Type 1} → statement M
 routes-steady-spec =

@@ -12,35 +12,37 @@ use Rattle.scene_tables.specs.Bytes.{every}
 use Rattle.scene_tables.proofs.laws.Every.{every-none, every-done}
 use Rattle.steady_mixer.proofs.laws.Tests.{line-fails, line-passes}
 use Rattle.moving_mixer.specs.State.{arrays}
+use Rattle.steady_mixer.specs.Steady.{ahead}
 use Rattle.steady_mixer.specs.Arrays.{trackRests}
 use Rattle.steady_mixer.proofs.steady.tracks_steady.Statement.{statement}
 use Rattle.steady_mixer.proofs.steady.tracks_steady.Tie as tie
 
 abbrev Inv-loop : tie.InvT-loop
-Inv-loop places levels kinds count j₀ j =
-    (j ≤ count) × ((counts shorts : List ℕ) (values times amplitudes : List Float) → every j (trackRests (arrays places levels amplitudes (numbers kinds counts shorts values times))) ≡ true)
+Inv-loop places levels kinds counts waiting nanos ends count j₀ j =
+    (j ≤ count) × ((shorts : List ℕ) (values times amplitudes : List Float) → every j (trackRests (ahead waiting nanos ends) (arrays places levels amplitudes (numbers kinds counts shorts values times))) ≡ true)
 
 abbrev μ-loop : tie.MeasureT-loop
-μ-loop places levels kinds count j₀ j = count - j
+μ-loop places levels kinds counts waiting nanos ends count j₀ j = count - j
 
 element-copy-out-count : tie.Need-element-copy-out-count Inv-loop μ-loop
 element-copy-out-count c = search needs
 
 loop-holds : tie.Need-loop-holds Inv-loop μ-loop
-loop-holds c = (zero-le, λ counts shorts values times amplitudes. every-none _)
+loop-holds c = (zero-le, λ shorts values times amplitudes. every-none _)
 
 track-steady-requires : tie.Need-track-steady-requires Inv-loop μ-loop
 track-steady-requires c κs =
-    let start = c .before .before .before .before in
+    let start = c .before .before .before .before .before .before in
     let j = c .before .loop .j in
     let h = c .loop-test .taken in
-    (omega (arith, h, start .pre .0 .few), (omega (arith, h, start .pre .0 .few, start .pre .0 .parents j h), (start .pre .1 .0, start .pre .1 .1 j h)))
+    (omega (arith, h, start .pre .0 .few), (omega (arith, h, start .pre .0 .few, start .pre .0 .parents j h), (start .pre .1 .0, (start .pre .1 .1 .0, start .pre .1 .1 .1 j h))))
 
 returns : tie.Need-returns Inv-loop μ-loop
 returns c =
-    let a = c .before .before .before .before .before .before .args in
-    λ counts shorts values times amplitudes.
-    line-fails (trackRests (arrays (a .places .now) (a .levels .now) amplitudes (numbers (a .kinds .now) counts shorts values times))) (c .before .track-steady .ensures counts shorts values times amplitudes) (c .before .before .loop-test .taken) (c .if1 .taken)
+    let a = c .before .before .before .before .before .before .before .before .args in
+    let h = ahead (a .waiting) (a .nanos) (a .ends .now) in
+    λ shorts values times amplitudes.
+    line-fails (trackRests h (arrays (a .places .now) (a .levels .now) amplitudes (numbers (a .kinds .now) (a .counts .now) shorts values times))) (c .before .track-steady .ensures shorts values times amplitudes) (c .before .before .loop-test .taken) (c .if1 .taken)
 
 add-j : tie.Need-add-j Inv-loop μ-loop
 add-j c = search needs
@@ -50,14 +52,15 @@ loop-less c = search needs
 
 loop-again : tie.Need-loop-again Inv-loop μ-loop
 loop-again c =
-    let a = c .before .before .before .before .before .before .args in
+    let a = c .before .before .before .before .before .before .before .before .args in
+    let h = ahead (a .waiting) (a .nanos) (a .ends .now) in
     let l = c .before .before .before .loop in
-    (add-one-le (c .before .before .loop-test .taken), λ counts shorts values times amplitudes. line-passes (trackRests (arrays (a .places .now) (a .levels .now) amplitudes (numbers (a .kinds .now) counts shorts values times))) (c .before .track-steady .ensures counts shorts values times amplitudes) (c .if1 .left) (l .inv .1 counts shorts values times amplitudes))
+    (add-one-le (c .before .before .loop-test .taken), λ shorts values times amplitudes. line-passes (trackRests h (arrays (a .places .now) (a .levels .now) amplitudes (numbers (a .kinds .now) (a .counts .now) shorts values times))) (c .before .track-steady .ensures shorts values times amplitudes) (c .if1 .left) (l .inv .1 shorts values times amplitudes))
 
 returns-2 : tie.Need-returns-2 Inv-loop μ-loop
 returns-2 c =
     let l = c .before .loop in
-    λ counts shorts values times amplitudes. every-done _ _ _ (c .loop-test .left) (l .inv .0) (l .inv .1 counts shorts values times amplitudes)
+    λ shorts values times amplitudes. every-done _ _ _ (c .loop-test .left) (l .inv .0) (l .inv .1 shorts values times amplitudes)
 
 pub tracks-steady-spec : {M : Type 1} → statement M
 tracks-steady-spec =
