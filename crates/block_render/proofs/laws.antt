@@ -12,4 +12,5 @@ pub mod Joined
 pub mod Mixed
 pub mod Turn
 pub mod Nanos
+pub mod Ends
 pub mod Cut

@@ -3,15 +3,16 @@ use mathlib.Core.Path.{_≡_}
 use mathlib.Core.Bool.{Bool, cond}
 use mathlib.Core.List.{List}
 use Prim.Native.Nat.{ℕ, suc, _+_, _≤_, _<_}
-use lib.ListN.{length, getD}
+use lib.ListN.{length, getD, take, replicate}
 use lib.Ieee.{Float}
 use Rattle.recordings.specs.Recordings.{Recordings}
 use Rattle.limits.specs.Limits.{clockLines, sendLines, chunkFramesMost, blockFramesMost, channelsMost, rateMost}
 use Rattle.rounding.specs.Duration.{InAnHour, nanosFromSecs}
-use Rattle.laws.specs.Loop.{upto}
+use Rattle.laws.specs.Loop.{upto, changed}
 use Rattle.laws.specs.Pieces.{pieces}
 use Rattle.clock.specs.declared.when_to_start.Clocks.{Clocks}
-use Rattle.clock.specs.WhenToStart.{clocksUpdated, CanMoveAll}
+use Rattle.clock.specs.Clock.{ticksOf}
+use Rattle.clock.specs.WhenToStart.{clocksUpdated, CanMoveAll, absentClock}
 use Rattle.clock.specs.ChunkTime.{chunkTime}
 use Rattle.scene.specs.declared.scene.Head.{Head}
 use Rattle.chunk.specs.declared.chunk.Chunk.{Chunk}
@@ -95,6 +96,13 @@ pub record BlockAsks (still : Bool) (h : Head) (clocks : Clocks) (a : Arrays) (s
   pub block : h .block ≤ blockFramesMost
   pub ticks : (k : ℕ) → k < chunkCount h → CanMoveAll (chunkClocks h k clocks) (seconds h k)
   pub chunks : (k : ℕ) → k < chunkCount h → ChunkAsks still (chunkFrames h k) (seconds h k) (chunkClocks h (suc k) clocks) (chunkArrays still h clocks k a) samples l l' l''
+
+-- the ticks that each clock has counted, and those at a block's end
+unfoldable pub clockTicks : Clocks → List ℕ
+clockTicks cs = changed (λ i x. ticksOf (getD (cs .clocks) i absentClock .state)) (cs .count) (replicate clockLines 0)
+
+abbrev pub endTicks : Head → Clocks → List ℕ
+endTicks h clocks = take (clocks .count) (clockTicks (chunkClocks h (chunkCount h) clocks))
 
 -- how long a block is, in nanoseconds: each chunk's are rounded by themselves
 unfoldable pub blockNanos : Head → ℕ

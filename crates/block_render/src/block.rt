@@ -22,7 +22,7 @@ ghost use Rattle.renderer.specs.Renderer.{chunkCount, chunkFrames};
 ghost use Rattle.parameter_store.specs.Store.{numbers};
 ghost use Rattle.moving_mixer.specs.State.{arrays, ArraysSized};
 ghost use Rattle.moving_mixer.specs.Update.{mixerOn, TracksThere, RoutesThere, RoutesHeard};
-ghost use Rattle.block_render.specs.Block.{mixedSamples, arraysChunk, arraysIn, arraysAfter, ChunkAsks, chunkClocks, chunkArrays, blockHeard, BlockAsks, blockHead, blockNanos, NanosAsk, ClocksAsk};
+ghost use Rattle.block_render.specs.Block.{mixedSamples, arraysChunk, arraysIn, arraysAfter, ChunkAsks, chunkClocks, chunkArrays, blockHeard, BlockAsks, blockHead, clockTicks, blockNanos, NanosAsk, ClocksAsk};
 use crate::sounds::advance;
 use chunk::Amplitudes;
 use chunk::FRAMES;
@@ -32,6 +32,7 @@ use clock::Clocks;
 use gain_table::GainTable;
 use level_amplitudes::Parts;
 use limits::CHUNK_FRAMES;
+use limits::CLOCK_LINES;
 use links::Links;
 use scene::Head;
 use track::process_flat;
@@ -321,7 +322,7 @@ fn process_chunks<'a>(
 }
 
 // The clocks after a block.
-fn block_clocks(clocks: Clocks, head: Head) -> Clocks
+pub fn block_clocks(clocks: Clocks, head: Head) -> Clocks
     requires { ⌜ ClocksAsk head clocks ⌝ }
     ensures { λ r. ⌜ r ≡ chunkClocks head (chunkCount head) clocks ⌝ }
 {
@@ -337,6 +338,24 @@ fn block_clocks(clocks: Clocks, head: Head) -> Clocks
         k += 1;
     }
     moved
+}
+
+// The ticks that each clock has counted.
+pub fn clock_ticks(clocks: Clocks) -> [u64; CLOCK_LINES]
+    requires { ⌜ clocks .count ≤ clockLines ⌝ }
+    ensures { λ r. ⌜ r ≡ clockTicks clocks ⌝ }
+{
+    let all = clocks.clocks;
+    let count = clocks.count;
+    let mut ticks = [0u64; CLOCK_LINES];
+    let mut i = 0;
+    while i < count {
+        let clock = all[i];
+        let time = clock.time(i);
+        ticks[i] = time.ticks;
+        i += 1;
+    }
+    ticks
 }
 
 // No block is so long.

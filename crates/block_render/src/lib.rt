@@ -3,8 +3,10 @@
 mod block;
 mod sounds;
 
+pub use block::block_clocks;
 pub use block::block_nanos;
 pub use block::block_step;
+pub use block::clock_ticks;
 pub use block::move_state;
 pub use block::process_block;
 pub use block::still_head;

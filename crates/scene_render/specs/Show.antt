@@ -25,7 +25,7 @@ use Rattle.moving_mixer.specs.Update.{mixerOn, TracksThere, RoutesThere, Routes
 use Rattle.steady_mixer.specs.Steady.{ahead}
 use Rattle.steady_mixer.specs.Arrays.{arraysSteady, LevelsIn}
 use Rattle.renderer.specs.Renderer.{chunkCount}
-use Rattle.block_render.specs.Block.{blockHead, chunkArrays, blockHeard, BlockAsks, ClocksAsk}
+use Rattle.block_render.specs.Block.{blockHead, chunkArrays, blockHeard, BlockAsks, endTicks, ClocksAsk}
 use Rattle.mixer_layout.specs.Put.{mixerPut}
 
 -- ---- the next block with orders, or the show's end
@@ -43,10 +43,10 @@ unfoldable pub blockRests : ℕ → Arrays → Bool
 blockRests nanos a = arraysSteady (ahead false nanos []) a
 
 -- Something waits in it, and for longer than its nanoseconds, of which `step` is the seconds. Asked of a block without orders alone: after them a motion that
--- waits may have to work out its value. Starts at a clock's time are not looked ahead to.
-unfoldable pub blockWaits : Bool → Bool → ℕ → Float → Arrays → Bool
-blockWaits rests ordered nanos step a =
-    cond rests false (cond ordered false (cond (eqb nanos 0) false (cond (eqb (nanosFromSecs step) nanos) (arraysSteady (ahead true nanos []) a) false)))
+-- waits may have to work out its value.
+unfoldable pub blockWaits : Bool → Bool → ℕ → Float → Head → Clocks → Arrays → Bool
+blockWaits rests ordered nanos step h clocks a =
+    cond rests false (cond ordered false (cond (eqb nanos 0) false (cond (eqb (nanosFromSecs step) nanos) (arraysSteady (ahead true nanos (endTicks h clocks)) a) false)))
 
 abbrev pub blockStill : Bool → Bool → Bool
 blockStill rests waits = cond rests true waits
@@ -59,14 +59,14 @@ arraysWaited waits step clocks a = cond (not waits) a (mixerOn step clocks a)
 unfoldable pub blockAfter : Bool → ℕ → Float → Head → Clocks → Arrays → Arrays
 blockAfter ordered nanos step h clocks a =
     let rests = blockRests nanos a in
-    let waits = blockWaits rests ordered nanos step a in
+    let waits = blockWaits rests ordered nanos step h clocks a in
     let cut = blockHead (blockStill rests waits) h in
     chunkArrays (blockStill rests waits) cut clocks (chunkCount cut) (arraysWaited waits step clocks a)
 
 unfoldable pub blockOut : Bool → ℕ → Float → Head → Clocks → Arrays → Recordings → List Float
 blockOut ordered nanos step h clocks a samples =
     let rests = blockRests nanos a in
-    let waits = blockWaits rests ordered nanos step a in
+    let waits = blockWaits rests ordered nanos step h clocks a in
     let still = blockStill rests waits in
     blockHeard still (blockHead still h) clocks (arraysWaited waits step clocks a) samples
 
@@ -81,7 +81,7 @@ pub record BlockReady (ordered : Bool) (nanos : ℕ) (step : Float) (h : Head) (
   pub hour : InAnHour step
   pub few : clocks .count ≤ clockLines
   pub ticks : ClocksAsk h clocks
-  pub asks : (rests waits : Bool) → rests ≡ blockRests nanos a → waits ≡ blockWaits rests ordered nanos step a → BlockAsks (blockStill rests waits) (blockHead (blockStill rests waits) h) clocks (arraysWaited waits step clocks a) samples l l' l''
+  pub asks : (rests waits : Bool) → rests ≡ blockRests nanos a → waits ≡ blockWaits rests ordered nanos step h clocks a → BlockAsks (blockStill rests waits) (blockHead (blockStill rests waits) h) clocks (arraysWaited waits step clocks a) samples l l' l''
 
 -- ---- what the code of the blocks asks: clocks, arrays and links are those of the scene's new mixer
 

@@ -6,7 +6,7 @@ ghost use Prim.Native.Nat.{ℕ, _-_, _*_, _≤_};
 ghost use lib.Ieee.{Float};
 ghost use lib.ListN.{length, getD};
 ghost use Rattle.recordings.specs.Recordings.{recordings};
-ghost use Rattle.limits.specs.Limits.{sendLines, orderLines, chunkFramesMost, blockFramesMost};
+ghost use Rattle.limits.specs.Limits.{clockLines, sendLines, orderLines, chunkFramesMost, blockFramesMost};
 ghost use Rattle.rounding.specs.Duration.{InAnHour};
 ghost use Rattle.gain_table.specs.GainTable.{IsGainTable};
 ghost use Rattle.accepted.specs.SceneOk.{SceneOk, SamplesOk};
@@ -18,7 +18,7 @@ ghost use Rattle.parameter_store.specs.Store.{numbers, kindsSize, countsSize, v
 ghost use Rattle.moving_mixer.specs.State.{arrays};
 ghost use Rattle.moving_mixer.specs.Update.{TracksThere, RoutesThere};
 ghost use Rattle.steady_mixer.specs.Arrays.{LevelsIn};
-ghost use Rattle.block_render.specs.Block.{blockHead, chunkClocks};
+ghost use Rattle.block_render.specs.Block.{blockHead, chunkClocks, ClocksAsk};
 ghost use Rattle.scene_render.specs.Show.{nearerBlock, nextOrders, blockWaits, blockStill, blockAfter, blockOut, BlockReady, Begins};
 use chunk::Amplitudes;
 use chunk::LEVELS;
@@ -93,6 +93,8 @@ fn waits_through(
     ordered: bool,
     nanos: u64,
     step: f64,
+    head: Head,
+    clocks: Clocks,
 ) -> bool
     requires { ⌜ TracksThere (now places) ⌝ }
     requires { ⌜ RoutesThere (now places) ⌝ }
@@ -102,8 +104,10 @@ fn waits_through(
     requires { ⌜ length (now values) ≡ valuesSize ⌝ }
     requires { ⌜ LevelsIn (now places) (now levels) (now values) ⌝ }
     requires { ⌜ InAnHour step ⌝ }
+    requires { ⌜ ClocksAsk head clocks ⌝ }
+    requires { ⌜ clocks .count ≤ clockLines ⌝ }
     ensures { λ r. ⌜ ((shorts : List ℕ) (times amplitudes : List Float)
-        → r ≡ blockWaits rests ordered nanos step (arrays (now (places .entry)) (now (levels .entry)) amplitudes (numbers (now (kinds .entry)) (now (counts .entry)) shorts (now (values .entry)) times))) ⌝ }
+        → r ≡ blockWaits rests ordered nanos step head clocks (arrays (now (places .entry)) (now (levels .entry)) amplitudes (numbers (now (kinds .entry)) (now (counts .entry)) shorts (now (values .entry)) times))) ⌝ }
 {
     if rests {
         return false;
@@ -115,8 +119,19 @@ fn waits_through(
         return false;
     }
     if rounding::nanos_from_secs_f64(step) == nanos {
-        let none = [0u64; 0];
-        return is_steady(places, levels, kinds, counts, values, true, nanos, &none);
+        let after = block_render::block_clocks(clocks, head);
+        let ends = block_render::clock_ticks(after);
+        let count = clocks.count;
+        return is_steady(
+            places,
+            levels,
+            kinds,
+            counts,
+            values,
+            true,
+            nanos,
+            &ends[0..count],
+        );
     }
     false
 }
@@ -190,6 +205,8 @@ fn render_block<'a>(
         ordered,
         nanos,
         step,
+        head,
+        clocks,
     );
     let still = stands_still(rests, waits);
     block_render::move_state(

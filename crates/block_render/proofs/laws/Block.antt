@@ -36,7 +36,7 @@ use Rattle.block_render.proofs.laws.Updated.{updated-still, updated-mov
 -- ---- the clocks of a block
 
 module _ (s : Scene) (m : Mixer) where
-  ticked : (k : ℕ) {y : Clocks} → y ≡ chunkClocks (s .head) k (m .clocks) → clocksUpdated y (chunkSeconds s k) ≡ chunkClocks (s .head) (suc k) (m .clocks)
+  pub ticked : (k : ℕ) {y : Clocks} → y ≡ chunkClocks (s .head) k (m .clocks) → clocksUpdated y (chunkSeconds s k) ≡ chunkClocks (s .head) (suc k) (m .clocks)
   unfolding chunkClocks
   ticked k e = ap (λ (y : Clocks). clocksUpdated y (chunkSeconds s k)) e ∙ sym (upto-suc _ k (m .clocks))
 

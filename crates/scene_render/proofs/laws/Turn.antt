@@ -20,6 +20,7 @@ use Rattle.laws.proofs.laws.Loop.{changed-below}
 use Rattle.laws.specs.Pieces.{pieces, begun}
 use Rattle.laws.proofs.laws.Pieces.{begun-zero}
 use Rattle.clock.specs.declared.when_to_start.Clocks.{Clocks}
+use Rattle.clock.specs.WhenToStart.{clocksUpdated}
 use Rattle.scene.specs.declared.scene.Head.{Head}
 use Rattle.scene.specs.declared.scene.OrderLine.{OrderLine}
 use Rattle.scene.specs.declared.scene.Scene.{Scene}
@@ -39,7 +40,7 @@ use Rattle.mixer.specs.Mixer.{emptyTrack, emptyParameter, absentTrack, absentPa
 use Rattle.mixer.proofs.laws.MixerOk.{MixerOk}
 use Rattle.mixer.specs.Orders.{mixerOrdered}
 use Rattle.renderer.specs.Renderer.{chunkCount, chunksDone, mixerAt, blockSamples}
-use Rattle.renderer.proofs.laws.Renderer.{chunks-few, chunks-ok, seconds-in-an-hour}
+use Rattle.renderer.proofs.laws.Renderer.{chunkSeconds, chunks-few, chunks-ok, seconds-in-an-hour}
 use Rattle.parameter_store.specs.Store.{Numbers, numbers, kindsSize, countsSize, shortsSize, valuesSize, timesSize}
 use Rattle.moving_mixer.specs.State.{Arrays, arrays}
 use Rattle.moving_mixer.specs.Update.{mixerOn, TracksThere, RoutesThere, RoutesHeard}
@@ -55,9 +56,10 @@ use Rattle.still_blocks.proofs.laws.Run.{nanosBefore, Stays, done-next, chunk-s
 use Rattle.steady_mixer.specs.Arrays.{arraysSteady, LevelsIn}
 use Rattle.steady_mixer.proofs.laws.Arrays.{arrays-steady, levels-in}
 use Rattle.block_render.specs.Advance.{framed}
-use Rattle.block_render.specs.Block.{blockHead, chunkClocks, chunkArrays, blockHeard, BlockAsks, blockNanos, NanosAsk, ClocksAsk}
+use Rattle.block_render.specs.Block.{blockHead, chunkClocks, chunkArrays, blockHeard, BlockAsks, endTicks, blockNanos, NanosAsk, ClocksAsk}
 use Rattle.block_render.proofs.laws.Chunk.{StandsFor, agrees-of, routes-heard-on}
-use Rattle.block_render.proofs.laws.Block.{block-clocks, moving-stands, moving-heard, moving-asks}
+use Rattle.block_render.proofs.laws.Block.{block-clocks, ticked, moving-stands, moving-heard, moving-asks}
+use Rattle.block_render.proofs.laws.Ends.{clocks-first, ends-after}
 use Rattle.block_render.proofs.laws.Joined.{wait-stands, rest-stands, joined-stands, joined-heard, joined-asks, clocks-ask}
 use Rattle.scene_render.specs.Show.{nextOrders, blockRests, blockWaits, blockStill, arraysWaited, blockAfter, blockOut, BlockReady, Begins}
 use Rattle.scene_render.proofs.laws.Orders.{NextFrom, next-first, next-read, next-on, none-read}
@@ -244,6 +246,19 @@ module _ {s : Scene} {b next : ℕ} {ordered : Bool} {moved : Clocks} {a : Array
     unfolding nanosBefore blockNanos
     nanos-all = refl
 
+    -- the ticks at the block's end
+    abbrev ends : List ℕ
+    ends = endTicks (s .head) (m .clocks)
+
+    few-clocks : m .clocks .count ≤ clockLines
+    few-clocks = h .stands .inside .clocks .few
+
+    early-at : (k : ℕ) → k < chunkCount (s .head) → EndsAfter ends (clocksUpdated (chunksDone s k m .clocks) (chunkSeconds s k))
+    early-at k b = subst (EndsAfter ends) (sym (ticked s m k (block-clocks s m k))) (ends-after (s .head) (m .clocks) few-clocks (suc k) b)
+
+    early-first : EndsAfter ends (m .clocks)
+    early-first = subst (EndsAfter ends) (clocks-first (s .head) (m .clocks)) (ends-after (s .head) (m .clocks) few-clocks 0 (omega arith))
+
     early-none : (clocks : Clocks) → EndsAfter [] clocks
     early-none clocks t c d = absurd (omega (arith, c))
 
@@ -251,7 +266,7 @@ module _ {s : Scene} {b next : ℕ} {ordered : Bool} {moved : Clocks} {a : Array
     abbrev Case : Bool → Bool → Type 0
     Case true true = ⊥
     Case true false = Stays (ahead false whole []) s m
-    Case false true = Stays (ahead true whole []) s m × (nanosFromSecs step ≡ whole)
+    Case false true = Stays (ahead true whole ends) s m × (nanosFromSecs step ≡ whole)
     Case false false = Unit {0}
 
     rest-case : blockRests nanos a ≡ true → Case true false
@@ -264,21 +279,21 @@ module _ {s : Scene} {b next : ℕ} {ordered : Bool} {moved : Clocks} {a : Array
           early = λ k b. early-none _;
         }
 
-    wait-case : nanos ≡ whole → ordered ≡ false → nanosFromSecs step ≡ nanos → arraysSteady (ahead true nanos []) a ≡ true → Case false true
+    wait-case : nanos ≡ whole → ordered ≡ false → nanosFromSecs step ≡ nanos → arraysSteady (ahead true nanos ends) a ≡ true → Case false true
     wait-case is none same e = (
       record {
-        still = ap (λ (n : ℕ). mixerSteady (ahead true n []) s m) (sym is) ∙ steady-mixer (ahead true nanos []) e;
+        still = ap (λ (n : ℕ). mixerSteady (ahead true n ends) s m) (sym is) ∙ steady-mixer (ahead true nanos ends) e;
         settled = λ q. h .settled none;
         enough = le-of-eq nanos-all;
-        early = λ k b. early-none _;
+        early = early-at;
       },
       same ∙ is,
     )
 
-    case-waits : (o z q x w : Bool) → ordered ≡ o → eqb nanos 0 ≡ z → eqb (nanosFromSecs step) nanos ≡ q → arraysSteady (ahead true nanos []) a ≡ x → w ≡ cond o false (cond z false (cond q x false)) → Case false w
+    case-waits : (o z q x w : Bool) → ordered ≡ o → eqb nanos 0 ≡ z → eqb (nanosFromSecs step) nanos ≡ q → arraysSteady (ahead true nanos ends) a ≡ x → w ≡ cond o false (cond z false (cond q x false)) → Case false w
     case-waits o z q x true e₁ e₂ e₃ e₄ f = go o z q x e₁ e₂ e₃ e₄ f
       where
-        go : (o z q x : Bool) → ordered ≡ o → eqb nanos 0 ≡ z → eqb (nanosFromSecs step) nanos ≡ q → arraysSteady (ahead true nanos []) a ≡ x → true ≡ cond o false (cond z false (cond q x false)) → Case false true
+        go : (o z q x : Bool) → ordered ≡ o → eqb nanos 0 ≡ z → eqb (nanosFromSecs step) nanos ≡ q → arraysSteady (ahead true nanos ends) a ≡ x → true ≡ cond o false (cond z false (cond q x false)) → Case false true
         go false false true true e₁ e₂ e₃ e₄ f = wait-case (⊎-elim (λ (n : nanos ≡ 0). absurd (eqb-false nanos 0 e₂ n)) (λ (n : nanos ≡ whole). n) counted) e₁ (eqb-true (nanosFromSecs step) nanos e₃) e₄
         go false false true false e₁ e₂ e₃ e₄ f = absurd (true≢false f)
         go false false false x e₁ e₂ e₃ e₄ f = absurd (true≢false f)
@@ -286,11 +301,13 @@ module _ {s : Scene} {b next : ℕ} {ordered : Bool} {moved : Clocks} {a : Array
         go true z q x e₁ e₂ e₃ e₄ f = absurd (true≢false f)
     case-waits o z q x false e₁ e₂ e₃ e₄ f = tt
 
-    case-of : (rests waits : Bool) → rests ≡ blockRests nanos a → waits ≡ blockWaits rests ordered nanos step a → Case rests waits
+    case-of : (rests waits : Bool) → rests ≡ blockRests nanos a → waits ≡ blockWaits rests ordered nanos step (s .head) moved a → Case rests waits
     unfolding blockWaits
     case-of true true e f = absurd (true≢false f)
     case-of true false e f = rest-case (sym e)
-    case-of false waits e f = case-waits ordered (eqb nanos 0) (eqb (nanosFromSecs step) nanos) (arraysSteady (ahead true nanos []) a) waits refl refl refl refl f
+    case-of false waits e f =
+        case-waits ordered (eqb nanos 0) (eqb (nanosFromSecs step) nanos) (arraysSteady (ahead true nanos ends) a) waits refl refl refl refl
+        (f ∙ ap (λ (x : Clocks). cond ordered false (cond (eqb nanos 0) false (cond (eqb (nanosFromSecs step) nanos) (arraysSteady (ahead true nanos (endTicks (s .head) x)) a) false))) (h .clocks))
 
     -- ---- the block
 
@@ -305,21 +322,21 @@ module _ {s : Scene} {b next : ℕ} {ordered : Bool} {moved : Clocks} {a : Array
     unfolding blockHead
     asks-by there true true k = absurd k
     asks-by {samples} there true false k = joined-asks (ahead false whole []) s (mixerNew s) m chunks a l l' l'' ok (h .stands) k a (rest-stands (ahead false whole []) s (mixerNew s) m chunks a l l' l'' ok (h .stands) k refl) samples there (chunks-few s ok b (h .inside))
-    asks-by {samples} there false true k = joined-asks (ahead true whole []) s (mixerNew s) m chunks a l l' l'' ok (h .stands) (k .0) (mixerOn step (m .clocks) a) (wait-stands (ahead true whole []) s (mixerNew s) m chunks a l l' l'' ok (h .stands) (k .0) step (k .1 ∙ sym nanos-all) (early-none (m .clocks))) samples there (chunks-few s ok b (h .inside))
+    asks-by {samples} there false true k = joined-asks (ahead true whole ends) s (mixerNew s) m chunks a l l' l'' ok (h .stands) (k .0) (mixerOn step (m .clocks) a) (wait-stands (ahead true whole ends) s (mixerNew s) m chunks a l l' l'' ok (h .stands) (k .0) step (k .1 ∙ sym nanos-all) early-first) samples there (chunks-few s ok b (h .inside))
     asks-by {samples} there false false k = moving-asks s (mixerNew s) m chunks a l l' l'' ok (h .stands) samples there (chunks-few s ok b (h .inside))
 
     heard-by : (samples : Recordings) → SamplesOk s samples → (rests waits : Bool) → Case rests waits → blockSamples s samples m ≡ blockHeard (blockStill rests waits) (cutBy rests waits) (m .clocks) (arraysWaited waits step (m .clocks) a) samples
     unfolding blockHead
     heard-by samples there true true k = absurd k
     heard-by samples there true false k = joined-heard (ahead false whole []) s (mixerNew s) m chunks a l l' l'' ok (h .stands) k a (rest-stands (ahead false whole []) s (mixerNew s) m chunks a l l' l'' ok (h .stands) k refl) samples there
-    heard-by samples there false true k = joined-heard (ahead true whole []) s (mixerNew s) m chunks a l l' l'' ok (h .stands) (k .0) (mixerOn step (m .clocks) a) (wait-stands (ahead true whole []) s (mixerNew s) m chunks a l l' l'' ok (h .stands) (k .0) step (k .1 ∙ sym nanos-all) (early-none (m .clocks))) samples there
+    heard-by samples there false true k = joined-heard (ahead true whole ends) s (mixerNew s) m chunks a l l' l'' ok (h .stands) (k .0) (mixerOn step (m .clocks) a) (wait-stands (ahead true whole ends) s (mixerNew s) m chunks a l l' l'' ok (h .stands) (k .0) step (k .1 ∙ sym nanos-all) early-first) samples there
     heard-by samples there false false k = moving-heard s (mixerNew s) m chunks a l l' l'' ok (h .stands) samples
 
     stands-by : (rests waits : Bool) → Case rests waits → StandsFor s (mixerNew s) (chunksDone s (chunkCount (s .head)) m) (chunks + chunkCount (s .head)) (chunkArrays (blockStill rests waits) (cutBy rests waits) (m .clocks) (chunkCount (cutBy rests waits)) (arraysWaited waits step (m .clocks) a)) l l' l''
     unfolding blockHead
     stands-by true true k = absurd k
     stands-by true false k = joined-stands (ahead false whole []) s (mixerNew s) m chunks a l l' l'' ok (h .stands) k a (rest-stands (ahead false whole []) s (mixerNew s) m chunks a l l' l'' ok (h .stands) k refl)
-    stands-by false true k = joined-stands (ahead true whole []) s (mixerNew s) m chunks a l l' l'' ok (h .stands) (k .0) (mixerOn step (m .clocks) a) (wait-stands (ahead true whole []) s (mixerNew s) m chunks a l l' l'' ok (h .stands) (k .0) step (k .1 ∙ sym nanos-all) (early-none (m .clocks)))
+    stands-by false true k = joined-stands (ahead true whole ends) s (mixerNew s) m chunks a l l' l'' ok (h .stands) (k .0) (mixerOn step (m .clocks) a) (wait-stands (ahead true whole ends) s (mixerNew s) m chunks a l l' l'' ok (h .stands) (k .0) step (k .1 ∙ sym nanos-all) early-first)
     stands-by false false k = moving-stands s (mixerNew s) m chunks a l l' l'' ok (h .stands) (chunkCount (s .head))
 
     clocks-there : ClocksAsk (s .head) moved
@@ -340,7 +357,7 @@ module _ {s : Scene} {b next : ℕ} {ordered : Bool} {moved : Clocks} {a : Array
           asks = λ rests waits e f. with-clocks (λ (x : Clocks). BlockAsks (blockStill rests waits) (cutBy rests waits) x (arraysWaited waits step x a) samples l l' l'') (asks-by there rests waits (case-of rests waits e f));
         }
 
-    module _ {rests waits : Bool} (e : rests ≡ blockRests nanos a) (f : waits ≡ blockWaits rests ordered nanos step a) where
+    module _ {rests waits : Bool} (e : rests ≡ blockRests nanos a) (f : waits ≡ blockWaits rests ordered nanos step (s .head) moved a) where
       abbrev still : Bool
       still = blockStill rests waits
 
@@ -422,17 +439,18 @@ module _ {s : Scene} {h : Head} {o : List OrderLine} {n : ℕ} {samples : Record
     pub ready-block : InAnHour step → T (unsigned step) → BlockReady ordered nanos step h moved a samples l l' l''
     ready-block hour w = subst (λ (x : Head). BlockReady ordered nanos step x moved a samples l l' l'') (sym (k .head)) (block-ready (k .ok) r nanos step counts (k .there) hour w)
 
-    module _ {rests waits : Bool} (e : rests ≡ blockRests nanos a) (f : waits ≡ blockWaits rests ordered nanos step a) where
+    module _ {rests waits : Bool} (e : rests ≡ blockRests nanos a) (f : waits ≡ blockWaits rests ordered nanos step h moved a) where
       reached-next : {moved' : Clocks} {a' : Arrays} {out₀ out last : List Float} → moved' ≡ chunkClocks h (chunkCount h) moved → a' ≡ chunkArrays (blockStill rests waits) (blockHead (blockStill rests waits) h) moved (chunkCount (blockHead (blockStill rests waits) h)) (arraysWaited waits step moved a) → out ≡ begun (pieces (showPiece s samples) b) out₀
           → last ≡ blockHeard (blockStill rests waits) (blockHead (blockStill rests waits) h) moved (arraysWaited waits step moved a) samples
           → Reached s samples (b + 1) next moved' a' l l' l'' out₀ (take (b * (h .block * h .channels)) out ++ (last ++ drop (b * (h .block * h .channels) + h .block * h .channels - b * (h .block * h .channels)) (drop (b * (h .block * h .channels)) out)))
       reached-next {moved'} {a'} {out₀} {out} {last} p q w heard =
           let still = blockStill rests waits in
+          let by : waits ≡ blockWaits rests ordered nanos step (s .head) moved a = subst (λ (x : Head). waits ≡ blockWaits rests ordered nanos step x moved a) (k .head) f in
           record {
-            before = block-turn (k .ok) r nanos step counts e f (subst (λ (x : Head). moved' ≡ chunkClocks x (chunkCount x) moved) (k .head) p) (subst (λ (x : Head). a' ≡ chunkArrays still (blockHead still x) moved (chunkCount (blockHead still x)) (arraysWaited waits step moved a)) (k .head) q);
+            before = block-turn (k .ok) r nanos step counts e by (subst (λ (x : Head). moved' ≡ chunkClocks x (chunkCount x) moved) (k .head) p) (subst (λ (x : Head). a' ≡ chunkArrays still (blockHead still x) moved (chunkCount (blockHead still x)) (arraysWaited waits step moved a)) (k .head) q);
             written =
                 subst (λ (x : Head). take (b * (x .block * x .channels)) out ++ (last ++ drop (b * (x .block * x .channels) + x .block * x .channels - b * (x .block * x .channels)) (drop (b * (x .block * x .channels)) out)) ≡ begun (pieces (showPiece s samples) (b + 1)) out₀) (sym (k .head))
-                (show-turn s samples (k .ok) b out₀ w (block-samples (k .ok) r nanos step counts e f samples (k .there) (subst (λ (x : Head). last ≡ blockHeard still (blockHead still x) moved (arraysWaited waits step moved a) samples) (k .head) heard)));
+                (show-turn s samples (k .ok) b out₀ w (block-samples (k .ok) r nanos step counts e by samples (k .there) (subst (λ (x : Head). last ≡ blockHeard still (blockHead still x) moved (arraysWaited waits step moved a) samples) (k .head) heard)));
           }
 
     -- the block as the definitions say it

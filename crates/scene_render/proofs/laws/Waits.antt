@@ -1,8 +1,10 @@
 -- What the code of a block finds out, and what it then renders: the definitions, from what each call promises. Assumes nothing.
 use mathlib.Core.Path.{_≡_, refl, sym, ap, ap₂, _∙_, subst}
 use mathlib.Core.Bool.{Bool, true, false}
-use mathlib.Core.List.{List, []}
-use Prim.Native.Nat.{ℕ}
+use mathlib.Core.List.{List}
+use Prim.Native.Nat.{ℕ, _-_}
+use native.Mathlib.Omega.{arith}
+use lib.ListN.{take, drop}
 use lib.Ieee.{Float}
 use borrow.Author.Tests.{eq-eqb, ne-eqb}
 use Rattle.recordings.specs.Recordings.{Recordings}
@@ -13,40 +15,46 @@ use Rattle.renderer.specs.Renderer.{chunkCount}
 use Rattle.moving_mixer.specs.State.{Arrays}
 use Rattle.steady_mixer.specs.Steady.{ahead}
 use Rattle.steady_mixer.specs.Arrays.{arraysSteady}
-use Rattle.block_render.specs.Block.{blockHead, chunkArrays, blockHeard, BlockAsks}
+use Rattle.block_render.specs.Block.{blockHead, chunkArrays, blockHeard, BlockAsks, chunkClocks, clockTicks, endTicks}
 use Rattle.scene_render.specs.Show.{blockRests, blockWaits, blockStill, arraysWaited, blockAfter, blockOut}
 
 -- ---- whether something waits
 
-module _ (rests ordered : Bool) (nanos : ℕ) (step : Float) (a : Arrays) where
-  pub waits-rests : rests ≡ true → false ≡ blockWaits rests ordered nanos step a
+module _ (rests ordered : Bool) (nanos : ℕ) (step : Float) (h : Head) (clocks : Clocks) (a : Arrays) where
+  pub waits-rests : rests ≡ true → false ≡ blockWaits rests ordered nanos step h clocks a
   unfolding blockWaits
   waits-rests e = rw e refl
 
   module _ (e : rests ≡ false) where
-    pub waits-ordered : ordered ≡ true → false ≡ blockWaits rests ordered nanos step a
+    pub waits-ordered : ordered ≡ true → false ≡ blockWaits rests ordered nanos step h clocks a
     unfolding blockWaits
     waits-ordered f = rw (e, f) refl
 
     module _ (f : ordered ≡ false) where
-      pub waits-none : nanos ≡ 0 → false ≡ blockWaits rests ordered nanos step a
+      pub waits-none : nanos ≡ 0 → false ≡ blockWaits rests ordered nanos step h clocks a
       unfolding blockWaits
       waits-none z = rw (e, f, eq-eqb nanos 0 z) refl
 
       module _ (z : nanos ≡ 0 → ⊥) {n : ℕ} (is : n ≡ nanosFromSecs step) where
-        pub waits-asked : n ≡ nanos → {r : Bool} → r ≡ arraysSteady (ahead true nanos []) a → r ≡ blockWaits rests ordered nanos step a
+        pub waits-asked : n ≡ nanos → {r : Bool} → r ≡ arraysSteady (ahead true nanos (endTicks h clocks)) a → r ≡ blockWaits rests ordered nanos step h clocks a
         unfolding blockWaits
         waits-asked q k = rw (e, f, ne-eqb nanos 0 z, eq-eqb (nanosFromSecs step) nanos (sym is ∙ q)) k
 
-        pub waits-other : (n ≡ nanos → ⊥) → false ≡ blockWaits rests ordered nanos step a
+        pub waits-other : (n ≡ nanos → ⊥) → false ≡ blockWaits rests ordered nanos step h clocks a
         unfolding blockWaits
         waits-other q = rw (e, f, ne-eqb nanos 0 z, ne-eqb (nanosFromSecs step) nanos (λ p. q (is ∙ p))) refl
 
+-- the part of the ticks that is lent
+pub part-ends : (h : Head) (clocks : Clocks) {after : Clocks} {l : List ℕ} → after ≡ chunkClocks h (chunkCount h) clocks → l ≡ clockTicks after → take (clocks .count - 0) (drop 0 l) ≡ endTicks h clocks
+part-ends h clocks {after} {l} e f =
+    let all : clocks .count - 0 ≡ clocks .count = omega arith in
+    ap (λ (n : ℕ). take n l) all ∙ ap (take (clocks .count)) (f ∙ ap clockTicks e)
+
 -- ---- the block
 
-module _ (ordered : Bool) (nanos : ℕ) (step : Float) (h : Head) (clocks : Clocks) (a : Arrays) {rests waits still : Bool} {x : Arrays} (e : rests ≡ blockRests nanos a) (f : waits ≡ blockWaits rests ordered nanos step a) (g : still ≡ blockStill rests waits) (k : x ≡ arraysWaited waits step clocks a) where
-  waits-by : waits ≡ blockWaits (blockRests nanos a) ordered nanos step a
-  waits-by = f ∙ ap (λ (r : Bool). blockWaits r ordered nanos step a) e
+module _ (ordered : Bool) (nanos : ℕ) (step : Float) (h : Head) (clocks : Clocks) (a : Arrays) {rests waits still : Bool} {x : Arrays} (e : rests ≡ blockRests nanos a) (f : waits ≡ blockWaits rests ordered nanos step h clocks a) (g : still ≡ blockStill rests waits) (k : x ≡ arraysWaited waits step clocks a) where
+  waits-by : waits ≡ blockWaits (blockRests nanos a) ordered nanos step h clocks a
+  waits-by = f ∙ ap (λ (r : Bool). blockWaits r ordered nanos step h clocks a) e
 
   pub asks-moved : {samples : Recordings} {l l' l'' : List ℕ} → BlockAsks (blockStill rests waits) (blockHead (blockStill rests waits) h) clocks (arraysWaited waits step clocks a) samples l l' l'' → BlockAsks still (blockHead still h) clocks x samples l l' l''
   asks-moved {samples} {l} {l'} {l''} r =

@@ -20,7 +20,7 @@ is-steady-requires c κs =
 waits-through-requires : tie.Need-waits-through-requires
 waits-through-requires c κs =
     let r = c .before .before .before .before .before .before .before .before .before .before .before .before .before .before .before .before .before .before .before .before .before .before .pre .1 .0 in
-    (r .tracks, (r .routes, (r .sends, (r .sized .state .kinds, (r .sized .state .counts, (r .sized .state .values, (r .levels, r .hour)))))))
+    (r .tracks, (r .routes, (r .sends, (r .sized .state .kinds, (r .sized .state .counts, (r .sized .state .values, (r .levels, (r .hour, (r .ticks, r .few)))))))))
 
 stands-still-requires : tie.Need-stands-still-requires
 stands-still-requires c κs = search needs
