@@ -3,9 +3,11 @@ use mathlib.Core.Path.{_≡_}
 use mathlib.Core.Bool.{Bool, false}
 use mathlib.Core.List.{List}
 use Prim.Native.Nat.{ℕ, _+_, _*_, _≤_, _<_}
+use lib.Dec.{T}
 use lib.IntN.{pos}
 use lib.ListN.{getD, length, replicate}
 use lib.Ieee.{Float, nan, binary32, binary64, div, mul, eq, ofInt}
+use lib.Ieee.Scale.{finite}
 use Rattle.limits.specs.Limits.{trackPlaces, sendLines, routeLines, soundLines, chunkFramesMost}
 use Rattle.recordings.specs.Recordings.{Recordings, recording}
 use Rattle.decibels.specs.declared.decibels.Amplitude.{Amplitude}
@@ -105,7 +107,8 @@ pub record ChunkOk (c : Chunk) (samples : Recordings) : Type 0 where
   pub sendLevels : (s : ℕ) → s < c .«send_count» → LevelInRange (sendRow c s)
   pub mainLevel : LevelInRange (c .main)
   -- a route's send track is a line, counted from 1
-  pub routed : (r : ℕ) → r < c .«route_count» → (1 ≤ routeRow c r .send) × (routeRow c r .send ≤ sendLines)
+  pub routed : (r : ℕ) → r < c .«route_count» → (1 ≤ routeRow c r .send) × (routeRow c r .send ≤ c .«send_count»)
+  pub amplitudes : (r : ℕ) → r < c .«route_count» → T (finite (routeRow c r .amplitude .0))
   -- what a sound has left lies within the buffer that it is from
   pub held : (k : ℕ) → k < c .«sound_count» → 2 * (soundRow c k .start + soundRow c k .left) ≤ length (recording samples (soundRow c k .from))
   pub arrays : ChunkPlaces c

@@ -369,12 +369,7 @@ pub fn render_scene<'a>(scene: Scene, samples: &'a [f32], visitor: &'a [f32], ou
     let mut levels = [0.0f32; LEVELS];
     let mut amplitudes = [0.0f32; ROUTE_LINES];
     chunk::flatten(chunk, &mut places, &mut levels, &mut amplitudes);
-    let sub_tracks = track::sub_track_links(
-        &places,
-        chunk.track_count,
-        chunk.sound_count,
-        chunk.route_count,
-    );
+    let sub_tracks = track::sub_track_links(&places, chunk.track_count, chunk.sound_count);
     let sounds = links_of(&places, SOUND_TRACKS, chunk.sound_count);
     let routes = links_back(&places, ROUTE_TRACKS, chunk.route_count);
     let mut kinds = [0usize; KINDS];

@@ -5,6 +5,7 @@ pub mod Mix
 pub mod Steady
 pub mod Owners
 pub mod Running
+pub mod RunningSends
 pub mod Routes
 pub mod Unused
 pub mod Tracks

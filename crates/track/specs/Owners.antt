@@ -9,13 +9,12 @@ use Rattle.links.specs.Links.{owners, linksOf, columnFrom}
 use Rattle.links.specs.Marks.{isMarked, ownersMarked, allAboveMarked, usedOwner}
 use Rattle.chunk.specs.declared.chunk.Chunk.{Chunk}
 use Rattle.chunk.specs.Chunk.{trackRow, routeRow, soundRow}
-use Rattle.chunk.specs.Flat.{routeTracksFrom, soundTracksFrom}
+use Rattle.chunk.specs.Flat.{soundTracksFrom}
 
--- The tracks that are mixed, by their line counted from 1: where a sound or a route names a track it is one of them, and so is the parent of each.
--- The frames of any other are zeros, and it sends nothing.
+-- The tracks that are mixed, by their line counted from 1: where a sound names a track it is one of them, and so is the parent of each. The frames of
+-- any other are zeros.
 pub record UsedTracks (c : Chunk) (used : ℕ → Bool) : Type 0 where
   pub sounds : (k : ℕ) → k < c .«sound_count» → soundRow c k .track < owners → used (soundRow c k .track) ≡ true
-  pub routes : (r : ℕ) → r < c .«route_count» → routeRow c r .track < owners → used (routeRow c r .track) ≡ true
   pub parents : (j : ℕ) → j < c .«track_count» → used (suc j) ≡ true → used (trackRow c j .parent) ≡ true
 
 -- the parent of track j, counted from 0, if it is mixed
@@ -43,11 +42,9 @@ pub record LinksOf (c : Chunk) (a b d : List ℕ) : Type 0 where
 
 -- ---- the same by the columns of `places`, as it is worked out
 
--- marks of the tracks that sounds and routes name, and of those above them
-unfoldable pub marksOf : List ℕ → ℕ → ℕ → ℕ → List ℕ
-marksOf places tracks sounds routes =
-    let named = ownersMarked (columnFrom places routeTracksFrom) routes (ownersMarked (columnFrom places soundTracksFrom) sounds (replicate owners 0)) in
-    allAboveMarked (columnFrom places 0) tracks named
+-- marks of the tracks that sounds name, and of those above them
+unfoldable pub marksOf : List ℕ → ℕ → ℕ → List ℕ
+marksOf places tracks sounds = allAboveMarked (columnFrom places 0) tracks (ownersMarked (columnFrom places soundTracksFrom) sounds (replicate owners 0))
 
-unfoldable pub usedLinks : List ℕ → ℕ → ℕ → ℕ → List ℕ
-usedLinks places tracks sounds routes = linksOf (usedOwner (isMarked (marksOf places tracks sounds routes)) (columnFrom places 0)) tracks
+unfoldable pub usedLinks : List ℕ → ℕ → ℕ → List ℕ
+usedLinks places tracks sounds = linksOf (usedOwner (isMarked (marksOf places tracks sounds)) (columnFrom places 0)) tracks

@@ -1,13 +1,15 @@
 -- track/send.rs.
 use mathlib.Core.List.{List}
-use Prim.Native.Nat.{ℕ, suc, _*_}
+use Prim.Native.Nat.{ℕ, suc, _*_, _<_}
 use lib.Ieee.{Float}
 use Rattle.limits.specs.Limits.{sendLines, chunkFramesMost}
 use Rattle.laws.specs.Loop.{upto}
 use Rattle.frame.specs.declared.frame.Frame.{Frame}
 use Rattle.chunk.specs.declared.chunk.Level.{Level}
+use Rattle.chunk.specs.declared.chunk.Chunk.{Chunk}
 use Rattle.frame.specs.Frame.{zeroFrame, added, scaled, cleared}
-use Rattle.frame.specs.Layout.{Layout, scratch, withFrames}
+use Rattle.frame.specs.Layout.{Layout, scratch, frameAt, withFrames}
+use Rattle.frame.specs.Running.{Both, Running}
 use Rattle.chunk.specs.Chunk.{amountAt, levelAmplitude}
 
 -- a send track's input to its scaled frame, at frame i of n
@@ -43,3 +45,7 @@ onSends n f l = upto (λ s r. withFrames (sendLayout s n) (f (suc s)) r) sendLin
 -- the n frames of the first `count` send tracks cleared
 unfoldable pub clearedSends : ℕ → ℕ → List Float → List Float
 clearedSends n count l = upto (λ s r. withFrames (sendLayout s n) cleared r) count l
+
+-- the inputs of a chunk's send tracks are running sums
+abbrev pub SendsRunning : Chunk → List Float → Type 0
+SendsRunning c l = (s i : ℕ) → s < c .«send_count» → i < c .frames → Both Running (frameAt (sendLayout s (c .frames)) l i)

@@ -11,7 +11,7 @@ ghost use Rattle.chunk.specs.Flat.{chunkFrom};
 ghost use Rattle.track.specs.Owners.{SubTrackLinks, soundLinks, routeLinks, LinksOf};
 ghost use Rattle.track.specs.Sub.{withSubSends};
 ghost use Rattle.track.specs.Mix.{mixedSet, tracksSet, withSendTracks};
-ghost use Rattle.track.specs.Send.{sendPlaces, onSends};
+ghost use Rattle.track.specs.Send.{sendPlaces, onSends, SendsRunning};
 use crate::send::SEND_PART;
 use crate::send::add_send;
 use crate::send::apply_level;
@@ -55,6 +55,7 @@ fn process_tracks<'a>(
     requires { ⌜ (let c = chunkFrom (now places) (now levels) (now amplitudes) in now parts ≡ partsOf (c .frames)) ⌝ }
     requires { ⌜ (let c = chunkFrom (now places) (now levels) (now amplitudes) in 2 * c .frames ≤ length (now out)) ⌝ }
     requires { ⌜ length (now sends) ≡ sendPlaces ⌝ }
+    requires { ⌜ (let c = chunkFrom (now places) (now levels) (now amplitudes) in SendsRunning c (now sends)) ⌝ }
     ensures frames { λ _. ⌜ (let c = chunkFrom (now (places .entry)) (now (levels .entry)) (now (amplitudes .entry)) in
         let heard = recordings (now (samples .entry)) (now (visitor .entry)) in
         now (out .exit) ≡ withFrames (scratch 0 (c .frames)) (tracksSet c heard) (now (out .entry))) ⌝ }

@@ -13,7 +13,7 @@ ghost use Rattle.links.specs.Links.{lastLine, lineBefore};
 ghost use Rattle.track.specs.Owners.{SubTrackLinks, soundLinks, routeLinks};
 ghost use Rattle.frame.specs.Running.{AllRunning, AllZero};
 ghost use Rattle.track.specs.Sub.{trackFrame, withTrackSends, withSubSends, sumSet, withRoutesFrom, trackPlacedScaled};
-ghost use Rattle.track.specs.Send.{sendPlaces, onSends};
+ghost use Rattle.track.specs.Send.{sendPlaces, onSends, SendsRunning};
 use crate::send::SEND_PART;
 use crate::sounds::add_sounds_and_scale;
 use chunk::Amplitudes;
@@ -170,6 +170,7 @@ fn gather<'a>(
     requires { ⌜ length (now sends) ≡ sendPlaces ⌝ }
     requires { ⌜ (let c = chunkFrom (now places) (now levels) (now amplitudes) in AllZero (c .frames) (now out)) ⌝ }
     requires { ⌜ (let c = chunkFrom (now places) (now levels) (now amplitudes) in track ≡ trackRow c (line - 1)) ⌝ }
+    requires { ⌜ (let c = chunkFrom (now places) (now levels) (now amplitudes) in SendsRunning c (now sends)) ⌝ }
     ensures sum { λ _. ⌜ (let c = chunkFrom (now (places .entry)) (now (levels .entry)) (now (amplitudes .entry)) in
         let heard = recordings (now (samples .entry)) (now (visitor .entry)) in
         now (out .exit) ≡ withFrames (scratch 0 (c .frames)) (trackPlacedScaled track (c .frames))
@@ -215,8 +216,8 @@ fn gather<'a>(
 
 // Adds the frames of track `line`, counted from 1, onto the sum `to`, and to the send tracks what it
 // and the tracks below it send: its frames are gathered, and handed on. `depth` is how many levels of
-// tracks are left. The sum began at +0.0: it is never -0.0, so that a track which stands still, or
-// has no link, need not add its zeros.
+// tracks are left. The sum and the send tracks' inputs began at +0.0: they are never -0.0, so that a
+// track which stands still, or has no link, need not add its zeros.
 pub fn process<'a>(
     places: &Places,
     levels: &Levels,
@@ -242,6 +243,7 @@ pub fn process<'a>(
     requires { ⌜ (let c = chunkFrom (now places) (now levels) (now amplitudes) in 2 * c .frames ≤ length (now to)) ⌝ }
     requires { ⌜ length (now sends) ≡ sendPlaces ⌝ }
     requires { ⌜ (let c = chunkFrom (now places) (now levels) (now amplitudes) in AllRunning (c .frames) (now to)) ⌝ }
+    requires { ⌜ (let c = chunkFrom (now places) (now levels) (now amplitudes) in SendsRunning c (now sends)) ⌝ }
     ensures frames { λ _. ⌜ (let c = chunkFrom (now (places .entry)) (now (levels .entry)) (now (amplitudes .entry)) in
         let heard = recordings (now (samples .entry)) (now (visitor .entry)) in
         now (to .exit) ≡ withFrames (scratch 0 (c .frames)) (addedFrom (trackFrame depth c heard line)) (now (to .entry))) ⌝ }

@@ -71,10 +71,6 @@ module _ (owner : ℕ → ℕ) where
   owners-length zero l = ap length (owners-zero l)
   owners-length (suc n) l = ap length (owners-suc n l) ∙ owner-length n (ownersMarked owner n l) ∙ owners-length n l
 
-  pub owners-stay : (n i : ℕ) (l : List ℕ) → Marked l i → Marked (ownersMarked owner n l) i
-  owners-stay zero i l e = ap (λ (r : List ℕ). getD r i 0) (owners-zero l) ∙ e
-  owners-stay (suc n) i l e = ap (λ (r : List ℕ). getD r i 0) (owners-suc n l) ∙ owner-stays n i (ownersMarked owner n l) (owners-stay n i l e)
-
   pub owners-there : (n k : ℕ) (l : List ℕ) → k < n → owner k < owners → length l ≡ owners → Marked (ownersMarked owner n l) (owner k)
   owners-there zero k l h o w = absurd (omega (arith, h))
   owners-there (suc n) k l h o w =

@@ -1,11 +1,13 @@
 -- A chunk can be made of the mixer, and mixed. Assumes nothing.
 use Prim.Native.Nat.{ℕ, _+_, _-_, _*_, _^_, _≤_, _<_}
-use native.Mathlib.Nat.{le-trans}
 use native.Mathlib.Omega.{arith}
+use lib.Dec.{T}
 use lib.ListN.{length, getD, replicate, length-replicate}
+use lib.Ieee.Scale.{finite}
 use Rattle.recordings.specs.Recordings.{Recordings, recording}
 use Rattle.recordings.proofs.laws.Recordings.{Lent, lent-recording}
 use Rattle.limits.specs.Limits.{trackPlaces, sendLines, routeLines, soundLines, chunkFramesMost}
+use Rattle.decibels.proofs.laws.Decibels.{amplitude-within}
 use Rattle.parameter.specs.declared.parameter.Parameter.{Parameter}
 use Rattle.parameter.proofs.laws.Range.{ParameterIn, valueRange}
 use Rattle.parameter.proofs.laws.Parameter.{value-admitted}
@@ -14,6 +16,7 @@ use Rattle.accepted.specs.Lines.{soundLine, placingAt, absentTrackLine, absentR
 use Rattle.accepted.specs.SceneOk.{SceneOk, SamplesOk}
 use Rattle.spatial.specs.Spatial.{PlacingIn}
 use Rattle.chunk.specs.declared.chunk.ChunkTrack.{ChunkTrack}
+use Rattle.chunk.specs.declared.chunk.ChunkRoute.{ChunkRoute}
 use Rattle.chunk.specs.Chunk.{LevelInRange, ChunkOk, absentLevel, absentTrackRow, absentRouteRow, absentSoundRow}
 use Rattle.mixer.specs.declared.mixer.Mixer.{Mixer}
 use Rattle.mixer.specs.Mixer.{stateOf, parameterOf}
@@ -50,6 +53,10 @@ record TrackOk (t : ChunkTrack) : Type 0 where
   fade : LevelInRange (t .fade)
   placing : PlacingIn (t .placing)
 
+record RouteOk (s : Scene) (r : ChunkRoute) : Type 0 where
+  send : (1 ≤ r .send) × (r .send ≤ s .«send_count»)
+  is-finite : T (finite (r .amplitude .0))
+
 module _ (s : Scene) (c : ℕ) (m : Mixer) (ok : SceneOk s) (h : MixerOk s c m) where
   tracks-ok : ArrayOk (λ t x. TrackOk x) (s .«track_count») trackPlaces absentTrackRow (chunkTracks (s .tracks) (s .placings) (s .«track_count») (m .tracks))
   unfolding chunkTracks chunkTrack
@@ -62,11 +69,12 @@ module _ (s : Scene) (c : ℕ) (m : Mixer) (ok : SceneOk s) (h : MixerOk s c m) 
   sends-ok =
       changed-array (replicate sendLines emptyLevel) (λ i l. levelOf (parameterOf (m .sends) i)) (ok .sendCount) (length-replicate sendLines emptyLevel) (λ i b. level-ok (parameterOf (m .sends) i) (h .sends i b))
 
-  routes-ok : ArrayOk (λ r x. (1 ≤ x .send) × (x .send ≤ sendLines)) (s .«route_count») routeLines absentRouteRow (chunkRoutes (s .routes) (s .«route_count») (m .routes))
+  routes-ok : ArrayOk (λ r x. RouteOk s x) (s .«route_count») routeLines absentRouteRow (chunkRoutes (s .routes) (s .«route_count») (m .routes))
   unfolding chunkRoutes chunkRoute
   routes-ok =
       changed-array (replicate routeLines emptyRouteRow) (λ r x. chunkRoute (getD (s .routes) r absentRouteLine) (parameterOf (m .routes) r)) (ok .routeCount) (length-replicate routeLines emptyRouteRow)
-      (λ r b. (ok .routes r b .send .0, le-trans (ok .routes r b .send .1) (ok .sendCount)))
+      (λ r b. let v = h .routes r b .value in
+      record { send = ok .routes r b .send; is-finite = amplitude-within (parameterOf (m .routes) r .«raw_value» .0) (v .held) (value-admitted (parameterOf (m .routes) r .«raw_value» .0) v) .is-finite })
 
   sounds-ok : (samples : Recordings) → SamplesOk s samples → ArrayOk (λ k x. 2 * (x .start + x .left) ≤ length (recording samples (x .from))) (s .«sound_count») soundLines absentSoundRow (chunkSounds (s .sounds) (s .«sound_count») (m .played))
   unfolding chunkSounds chunkSound
@@ -88,7 +96,8 @@ chunk-ok s samples c n m ok there h few =
       placings = λ t b. tracks-ok s c m ok h .each t b .placing;
       sendLevels = sends-ok s c m ok h .each;
       mainLevel = level-ok (m .«main_volume») (h .main);
-      routed = routes-ok s c m ok h .each;
+      routed = λ r b. routes-ok s c m ok h .each r b .send;
+      amplitudes = λ r b. routes-ok s c m ok h .each r b .is-finite;
       held = sounds-ok s c m ok h samples there .each;
       arrays = record { tracks = tracks-ok s c m ok h .places; sends = sends-ok s c m ok h .places; routes = routes-ok s c m ok h .places; sounds = sounds-ok s c m ok h samples there .places };
     }

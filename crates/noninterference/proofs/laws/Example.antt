@@ -137,7 +137,8 @@ whole-ok =
       placings = two (λ j. PlacingIn (trackRow whole j .placing)) near-in tt;
       sendLevels = only (λ s. LevelInRange (sendRow whole s)) unity-in;
       mainLevel = unity-in;
-      routed = only (λ r. (1 ≤ routeRow whole r .send) × (routeRow whole r .send ≤ sendLines)) (lit≤ tt, lit≤ tt);
+      routed = only (λ r. (1 ≤ routeRow whole r .send) × (routeRow whole r .send ≤ whole .«send_count»)) (lit≤ tt, lit≤ tt);
+      amplitudes = only (λ r. T (finite (routeRow whole r .amplitude .0))) tt;
       held = two (λ k. 2 * (soundRow whole k .start + soundRow whole k .left) ≤ length (recording samples (soundRow whole k .from))) (lit≤ tt) (lit≤ tt);
       arrays = record { tracks = refl; sends = refl; routes = refl; sounds = refl };
     }

@@ -63,7 +63,7 @@ module _ {s : Scene} {samples : Recordings} (ok : SceneOk s) (there : SamplesOk 
   counts-fit = (le-trans (le-of-eq (counts .tracks)) (ok .trackCount), (le-trans (le-of-eq (counts .sends)) (ok .sendCount), le-trans (le-of-eq (counts .routes)) (ok .routeCount)))
 
   pub laid-begins : {c : Clocks} {n : Numbers} (room : Numbers) {l l' l'' : List ℕ} → c ≡ mixer .clocks → Sized room → n ≡ mixerPut mixer places room
-      → l ≡ usedLinks places (chunk .«track_count») (chunk .«sound_count») (chunk .«route_count») → l' ≡ linksOf (columnFrom places soundTracksFrom) (chunk .«sound_count») → l'' ≡ linksOf (columnBack places routeTracksFrom (chunk .«route_count»)) (chunk .«route_count»)
+      → l ≡ usedLinks places (chunk .«track_count») (chunk .«sound_count») → l' ≡ linksOf (columnFrom places soundTracksFrom) (chunk .«sound_count») → l'' ≡ linksOf (columnBack places routeTracksFrom (chunk .«route_count»)) (chunk .«route_count»)
       → Begins s c (arrays places levels amplitudes n) l l' l''
   laid-begins room time sized put a b d =
       let few = chunk-fits s mixer ok (s .head .buffer) is in

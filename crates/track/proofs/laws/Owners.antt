@@ -14,7 +14,7 @@ use lib.Ieee.{Float}
 use Rattle.laws.specs.Loop.{downto, changed}
 use Rattle.laws.proofs.laws.FloatRound.{below-or-not}
 use Rattle.links.proofs.laws.Links.{lastOf, last-le, last-owner, last-skips, last-link, next-link, links-cong}
-use Rattle.links.proofs.laws.Marks.{Marked, owners-length, owners-stay, owners-there, above-stay, above-closed, column-links}
+use Rattle.links.proofs.laws.Marks.{Marked, owners-length, owners-there, above-stay, above-closed, column-links}
 use Rattle.limits.specs.Limits.{trackPlaces, routeLines, soundLines}
 use Rattle.links.specs.Links.{owners, lines, linksOf, lastLine, lineBefore, columnFrom, columnBack}
 use Rattle.links.specs.Marks.{isMarked, ownersMarked, allAboveMarked, usedOwner}
@@ -79,7 +79,7 @@ two-there links line a e h = subst (λ (i : ℕ). 0 < i) (sym (e ∙ ap (lineBef
 
 module _ (places : List ℕ) (levels amplitudes : List Float) where
   -- the marks of the tracks that are mixed hold all that they must
-  module _ (few : chunkFrom places levels amplitudes .«track_count» ≤ trackPlaces) (heard : chunkFrom places levels amplitudes .«sound_count» ≤ soundLines) (routed : chunkFrom places levels amplitudes .«route_count» ≤ routeLines) (earlier : (k : ℕ) → k < chunkFrom places levels amplitudes .«track_count» → columnFrom places 0 k ≤ k) where
+  module _ (few : chunkFrom places levels amplitudes .«track_count» ≤ trackPlaces) (heard : chunkFrom places levels amplitudes .«sound_count» ≤ soundLines) (earlier : (k : ℕ) → k < chunkFrom places levels amplitudes .«track_count» → columnFrom places 0 k ≤ k) where
     abbrev chunk : Chunk
     chunk = chunkFrom places levels amplitudes
 
@@ -89,11 +89,8 @@ module _ (places : List ℕ) (levels amplitudes : List Float) where
     abbrev bySounds : List ℕ
     bySounds = ownersMarked (columnFrom places soundTracksFrom) (chunk .«sound_count») none
 
-    abbrev byRoutes : List ℕ
-    byRoutes = ownersMarked (columnFrom places routeTracksFrom) (chunk .«route_count») bySounds
-
     abbrev marks : List ℕ
-    marks = marksOf places (chunk .«track_count») (chunk .«sound_count») (chunk .«route_count»)
+    marks = marksOf places (chunk .«track_count») (chunk .«sound_count»)
 
     parent-at : (j : ℕ) → j < chunk .«track_count» → columnFrom places 0 j ≡ trackRow chunk j .parent
     unfolding trackFrom
@@ -103,45 +100,28 @@ module _ (places : List ℕ) (levels amplitudes : List Float) where
     unfolding soundFrom
     sound-at k h = sym (ap (λ (s : ChunkSound). s .track) (sound-from places levels amplitudes k (omega (arith, heard, h))))
 
-    route-at : (r : ℕ) → r < chunk .«route_count» → columnFrom places routeTracksFrom r ≡ routeRow chunk r .track
-    unfolding routeFrom
-    route-at r h = sym (ap (λ (x : ChunkRoute). x .track) (route-from places levels amplitudes r (omega (arith, routed, h))))
-
     sounds-long : length bySounds ≡ owners
     sounds-long = owners-length (columnFrom places soundTracksFrom) (chunk .«sound_count») none ∙ length-replicate {A = ℕ} owners 0
 
-    routes-long : length byRoutes ≡ owners
-    routes-long = owners-length (columnFrom places routeTracksFrom) (chunk .«route_count») bySounds ∙ sounds-long
-
-    -- a mark that sounds and routes make stays
-    named-marked : (i : ℕ) → Marked byRoutes i → isMarked marks i ≡ true
-    unfolding marksOf
-    named-marked i m = eq-eqb (getD marks i 0) 1 (above-stay (columnFrom places 0) (chunk .«track_count») i byRoutes m)
-
     sound-marked : (k : ℕ) → k < chunk .«sound_count» → soundRow chunk k .track < owners → isMarked marks (soundRow chunk k .track) ≡ true
+    unfolding marksOf
     sound-marked k h o =
         let column = columnFrom places soundTracksFrom in
         let there : Marked bySounds (column k) = owners-there column (chunk .«sound_count») k none h (subst (λ (i : ℕ). i < owners) (sym (sound-at k h)) o) (length-replicate {A = ℕ} owners 0) in
-        subst (λ (i : ℕ). isMarked marks i ≡ true) (sound-at k h) (named-marked (column k) (owners-stay (columnFrom places routeTracksFrom) (chunk .«route_count») (column k) bySounds there))
-
-    route-marked : (r : ℕ) → r < chunk .«route_count» → routeRow chunk r .track < owners → isMarked marks (routeRow chunk r .track) ≡ true
-    route-marked r h o =
-        let column = columnFrom places routeTracksFrom in
-        subst (λ (i : ℕ). isMarked marks i ≡ true) (route-at r h)
-        (named-marked (column r) (owners-there column (chunk .«route_count») r bySounds h (subst (λ (i : ℕ). i < owners) (sym (route-at r h)) o) sounds-long))
+        subst (λ (i : ℕ). isMarked marks i ≡ true) (sound-at k h) (eq-eqb (getD marks (column k) 0) 1 (above-stay (columnFrom places 0) (chunk .«track_count») (column k) bySounds there))
 
     parent-marked : (j : ℕ) → j < chunk .«track_count» → isMarked marks (suc j) ≡ true → isMarked marks (trackRow chunk j .parent) ≡ true
     unfolding marksOf
     parent-marked j h m =
         subst (λ (i : ℕ). isMarked marks i ≡ true) (parent-at j h)
-        (eq-eqb (getD marks (columnFrom places 0 j) 0) 1 (above-closed (columnFrom places 0) (chunk .«track_count») j byRoutes earlier few routes-long h (eqb-true (getD marks (suc j) 0) 1 m)))
+        (eq-eqb (getD marks (columnFrom places 0 j) 0) 1 (above-closed (columnFrom places 0) (chunk .«track_count») j bySounds earlier few sounds-long h (eqb-true (getD marks (suc j) 0) 1 m)))
 
-    pub tracks-linked : {links : List ℕ} → links ≡ usedLinks places (chunk .«track_count») (chunk .«sound_count») (chunk .«route_count») → SubTrackLinks chunk links
+    pub tracks-linked : {links : List ℕ} → links ≡ usedLinks places (chunk .«track_count») (chunk .«sound_count») → SubTrackLinks chunk links
     unfolding usedLinks
     tracks-linked e =
         record {
           used = isMarked marks;
-          all = record { sounds = sound-marked; routes = route-marked; parents = parent-marked };
+          all = record { sounds = sound-marked; parents = parent-marked };
           links = e ∙ links-cong (usedOwner (isMarked marks) (columnFrom places 0)) (usedParent chunk (isMarked marks)) (chunk .«track_count») (λ j h. ap (λ (o : ℕ). cond (isMarked marks (suc j)) o owners) (parent-at j h));
         }
 
@@ -161,18 +141,18 @@ module _ (places : List ℕ) (levels amplitudes : List Float) where
       (λ k l. sym (ap (λ (r : ChunkRoute). r .track) (route-from places levels amplitudes (n - (k + 1)) (omega (arith, h, l)))))
 
 -- what is worked out step by step
-pub links-used : (places : List ℕ) (tracks sounds routes : ℕ) {a b m column r : List ℕ} → tracks ≤ trackPlaces → a ≡ ownersMarked (columnFrom places soundTracksFrom) sounds (replicate owners 0) → b ≡ ownersMarked (columnFrom places routeTracksFrom) routes a → m ≡ allAboveMarked (columnFrom places 0) tracks b
-    → column ≡ changed (λ k x. usedOwner (isMarked m) (columnFrom places 0) k) tracks (replicate trackPlaces owners) → r ≡ linksOf (columnFrom column 0) tracks → r ≡ usedLinks places tracks sounds routes
+pub links-used : (places : List ℕ) (tracks sounds : ℕ) {a m column r : List ℕ} → tracks ≤ trackPlaces → a ≡ ownersMarked (columnFrom places soundTracksFrom) sounds (replicate owners 0) → m ≡ allAboveMarked (columnFrom places 0) tracks a
+    → column ≡ changed (λ k x. usedOwner (isMarked m) (columnFrom places 0) k) tracks (replicate trackPlaces owners) → r ≡ linksOf (columnFrom column 0) tracks → r ≡ usedLinks places tracks sounds
 unfolding usedLinks marksOf
-links-used places tracks sounds routes {m = m} few p q e f g =
-    let marked = e ∙ ap (allAboveMarked (columnFrom places 0) tracks) (q ∙ ap (ownersMarked (columnFrom places routeTracksFrom) routes) p) in
+links-used places tracks sounds {m = m} few p e f g =
+    let marked = e ∙ ap (allAboveMarked (columnFrom places 0) tracks) p in
     g
     ∙ column-links (usedOwner (isMarked m) (columnFrom places 0)) tracks few f
     ∙ ap (λ (l : List ℕ). linksOf (usedOwner (isMarked l) (columnFrom places 0)) tracks) marked
 
 -- the three of a chunk that was laid out, whose tracks stand behind their parents
 pub links-made : (c : Chunk) {places : List ℕ} (levels amplitudes : List Float) {a b d : List ℕ} → places ≡ placesOf c → c .«track_count» ≤ trackPlaces → c .«sound_count» ≤ soundLines → c .«route_count» ≤ routeLines → ((k : ℕ) → k < c .«track_count» → columnFrom places 0 k ≤ k)
-    → a ≡ usedLinks places (c .«track_count») (c .«sound_count») (c .«route_count») → b ≡ linksOf (columnFrom places soundTracksFrom) (c .«sound_count») → d ≡ linksOf (columnBack places routeTracksFrom (c .«route_count»)) (c .«route_count»)
+    → a ≡ usedLinks places (c .«track_count») (c .«sound_count») → b ≡ linksOf (columnFrom places soundTracksFrom) (c .«sound_count») → d ≡ linksOf (columnBack places routeTracksFrom (c .«route_count»)) (c .«route_count»)
     → LinksOf (chunkFrom places levels amplitudes) a b d
 links-made c {places} levels amplitudes {a} is t s r earlier ta sb rd =
     let tracks : getD places trackCountPlace 0 ≡ c .«track_count» = ap (λ (p : List ℕ). getD p trackCountPlace 0) is ∙ place-count c 1 trackCountPlace (omega arith) in
@@ -180,8 +160,8 @@ links-made c {places} levels amplitudes {a} is t s r earlier ta sb rd =
     let sounds : getD places soundCountPlace 0 ≡ c .«sound_count» = ap (λ (p : List ℕ). getD p soundCountPlace 0) is ∙ place-count c 4 soundCountPlace (omega arith) in
     record {
       subTracks =
-          tracks-linked places levels amplitudes (le-trans (le-of-eq tracks) t) (le-trans (le-of-eq sounds) s) (le-trans (le-of-eq routes) r) (λ k h. earlier k (subst (λ (n : ℕ). k < n) tracks h))
-          (rw (tracks, sounds, routes) ta);
+          tracks-linked places levels amplitudes (le-trans (le-of-eq tracks) t) (le-trans (le-of-eq sounds) s) (λ k h. earlier k (subst (λ (n : ℕ). k < n) tracks h))
+          (rw (tracks, sounds) ta);
       sounds = sounds-linked places levels amplitudes (le-trans (le-of-eq sounds) s) (sb ∙ ap (linksOf (columnFrom places soundTracksFrom)) (sym sounds));
       routes = routes-linked places levels amplitudes (le-trans (le-of-eq routes) r) (rd ∙ ap (λ (n : ℕ). linksOf (columnBack places routeTracksFrom n) n) (sym routes));
     }
@@ -234,7 +214,6 @@ module _ (p q : List ℕ) (levels levels' amplitudes amplitudes' : List Float) (
   used-kept {used} u =
       record {
         sounds = λ k h o. subst (λ (i : ℕ). used i ≡ true) (sound-same k) (u .sounds k (subst (λ (n : ℕ). k < n) (sym (same .soundCount)) h) (subst (λ (i : ℕ). i < owners) (sym (sound-same k)) o));
-        routes = λ r h o. subst (λ (i : ℕ). used i ≡ true) (route-same r) (u .routes r (subst (λ (n : ℕ). r < n) (sym (same .routeCount)) h) (subst (λ (i : ℕ). i < owners) (sym (route-same r)) o));
         parents = λ j h m. subst (λ (i : ℕ). used i ≡ true) (parent-same j) (u .parents j (subst (λ (n : ℕ). j < n) (sym (same .trackCount)) h) m);
       }
 

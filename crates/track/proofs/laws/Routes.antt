@@ -4,6 +4,7 @@ use mathlib.Core.Path.{_≡_, sym, ap, _∙_, subst}
 use mathlib.Core.Logic.{_⊎_, inl, inr}
 use mathlib.Core.List.{List}
 use Prim.Native.Nat.{ℕ, _+_, _-_, _*_, _≤_, _<_}
+use native.Mathlib.Nat.{le-trans}
 use native.Mathlib.Omega.{arith}
 use lib.ListN.{length}
 use lib.Ieee.{Float}
@@ -57,7 +58,7 @@ module _ (c : Chunk) (samples : Recordings) (ok : ChunkOk c samples) (line : ℕ
       follow-turn (allSends (c .frames)) (routeBack c line given) n (routeOwner c) line begun r now (routes-skip c line given begun _) (omega (arith, ok .routes)) few linked at h f
       (made
       ∙ ap (λ (x : ChunkRoute). withFrames (sendLayout (x .send - 1) (c .frames)) (addedScaled given (x .amplitude)) now) row
-      ∙ route-taken c line given (n - (r - 1 + 1)) now (f .own h) (routed .0) (routed .1))
+      ∙ route-taken c line given (n - (r - 1 + 1)) now (f .own h) (routed .0) (le-trans (routed .1) (ok .sends)))
 
   pub routes-end : {r : ℕ} {now : List Float} → length begun ≡ sendPlaces → r ≡ 0 → RoutesLeft c line given begun now r → now ≡ onSends (c .frames) (withRoutesFrom c line given) begun
   routes-end long none f =
@@ -66,7 +67,9 @@ module _ (c : Chunk) (samples : Recordings) (ok : ChunkOk c samples) (line : ℕ
 
 -- its send track is one that there is
 pub route-sent : (c : Chunk) (samples : Recordings) (r : ℕ) {route : ChunkRoute} → ChunkOk c samples → 0 < r → r ≤ c .«route_count» → route ≡ routeRow c (c .«route_count» - r) → (1 ≤ route .send) × (route .send ≤ sendLines)
-route-sent c samples r ok h few read = subst (λ (x : ChunkRoute). (1 ≤ x .send) × (x .send ≤ sendLines)) (sym read) (ok .routed (c .«route_count» - r) (omega (arith, h, few)))
+route-sent c samples r ok h few read =
+    let there = ok .routed (c .«route_count» - r) (omega (arith, h, few)) in
+    subst (λ (x : ChunkRoute). (1 ≤ x .send) × (x .send ≤ sendLines)) (sym read) (there .0, le-trans (there .1) (ok .sends))
 
 -- send track t's part begins no later than that of s, or where that has ended
 pub parts-order : (s t n : ℕ) → 1 ≤ s → n ≤ chunkFramesMost → ((t - 1) * sendPart ≤ (s - 1) * sendPart) ⊎ ((s - 1) * sendPart + 2 * n ≤ (t - 1) * sendPart)

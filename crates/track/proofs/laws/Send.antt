@@ -17,7 +17,7 @@ use Rattle.laws.proofs.laws.Loop.{upto-suc, upto-cong, upto-zero, upto-turn}
 use Rattle.frame.specs.declared.frame.Frame.{Frame}
 use Rattle.frame.specs.Frame.{zeroFrame, cleared}
 use Rattle.frame.specs.Layout.{frameAt, withFrames}
-use Rattle.frame.proofs.laws.Layout.{Step, first-length, first-at, first-cong, first-same, first-twice, first-across, first-either, Apart, apart-before, apart-swap}
+use Rattle.frame.proofs.laws.Layout.{Step, first-length, first-at, first-cong, first-same, first-held, first-twice, first-across, first-either, Apart, apart-before, apart-swap}
 use Rattle.frame.proofs.laws.Turn.{Steps}
 use Rattle.track.specs.Send.{sendPart, sendPlaces, sendLayout, onSends, clearedSends}
 
@@ -57,6 +57,18 @@ module _ (n : ℕ) where
   pub onSends-same : (f : SendStep) (l : List Float) → ((s i : ℕ) (a : Frame) → f s i a ≡ a) → onSends n f l ≡ l
   unfolding onSends
   onSends-same f l h = parts-same f sendLines l (λ s i a p. h (suc s) i a)
+
+  -- steps that hold the frames that are there
+  parts-held : (f : SendStep) (k : ℕ) (l : List Float) → ((s i : ℕ) → s < k → i < n → f (suc s) i (frameAt (sendLayout s n) l i) ≡ frameAt (sendLayout s n) l i) → upto (part n f) k l ≡ l
+  parts-held f zero l h = upto-zero (part n f) l
+  parts-held f (suc k) l h =
+      upto-suc (part n f) k l
+      ∙ ap (part n f k) (parts-held f k l (λ s i p q. h s i (le-trans p (le-suc k)) q))
+      ∙ first-held (sendLayout k n) (f (suc k)) n l (λ i q. h k i (le-refl (suc k)) q)
+
+  pub onSends-held : (f : SendStep) (l : List Float) → ((s i : ℕ) → s < sendLines → i < n → f (suc s) i (frameAt (sendLayout s n) l i) ≡ frameAt (sendLayout s n) l i) → onSends n f l ≡ l
+  unfolding onSends
+  onSends-held f l h = parts-held f sendLines l h
 
 module _ (n : ℕ) (short : n ≤ chunkFramesMost) where
   -- two parts

@@ -17,7 +17,7 @@ use Rattle.frame.proofs.laws.Turn.{frames-steps}
 use Rattle.chunk.specs.declared.chunk.Chunk.{Chunk}
 use Rattle.chunk.specs.Chunk.{ChunkOk, trackRow}
 use Rattle.track.specs.Owners.{usedParent, SubTrackLinks}
-use Rattle.track.specs.Send.{sendPlaces, onSends}
+use Rattle.track.specs.Send.{sendPlaces, onSends, SendsRunning}
 use Rattle.track.specs.Sub.{trackFrame, withTrackSends, withSubSends}
 use Rattle.track.proofs.laws.Send.{allSends, sends-steps}
 use Rattle.track.proofs.laws.Owners.{Follows, follow-start, follow-less, follow-turn, follow-done}
@@ -36,12 +36,12 @@ below-owner true parent line h e = e
 below-owner false parent line h e = absurd (omega (arith, h, e))
 
 module _ {c : Chunk} {samples : Recordings} (ok : ChunkOk c samples) (d line : ℕ) (few : line ≤ trackPlaces) (sum₀ sends₀ : List Float) {links : List ℕ} where
-  pub tracks-begin : {j : ℕ} → SubTrackLinks c links → AllRunning (c .frames) sum₀ → j ≡ lastLine links line → TracksLeft c samples d line links sum₀ sends₀ sum₀ sends₀ j
-  tracks-begin s run at =
+  pub tracks-begin : {j : ℕ} → SubTrackLinks c links → AllRunning (c .frames) sum₀ → SendsRunning c sends₀ → j ≡ lastLine links line → TracksLeft c samples d line links sum₀ sends₀ sum₀ sends₀ j
+  tracks-begin s run sent at =
       record {
         linked = s;
         summed = follow-start (withFrames (scratch 0 (c .frames))) (subStep d c samples line) (c .«track_count») (usedParent c (s .used)) line sum₀ (sum-skips ok (s .all) d line few sum₀ sum₀ run) few (s .links) at;
-        sent = follow-start (allSends (c .frames)) (subSend d c samples line) (c .«track_count») (usedParent c (s .used)) line sends₀ (sends-skip ok (s .all) d line few sends₀ sends₀) few (s .links) at;
+        sent = follow-start (allSends (c .frames)) (subSend d c samples line) (c .«track_count») (usedParent c (s .used)) line sends₀ (sends-skip ok (s .all) d line few sends₀ sends₀ sent) few (s .links) at;
       }
 
   module _ {sum sends : List Float} {j : ℕ} (f : TracksLeft c samples d line links sum₀ sends₀ sum sends j) where
@@ -54,8 +54,8 @@ module _ {c : Chunk} {samples : Recordings} (ok : ChunkOk c samples) (d line : �
     parent-is : 0 < j → trackRow c (j - 1) .parent ≡ line
     parent-is h = below-owner (f .linked .used (suc (j - 1))) (trackRow c (j - 1) .parent) line few (f .summed .own h)
 
-    pub tracks-turn : {next : ℕ} {sum' sends' : List Float} → next ≡ lineBefore links j → 0 < j → AllRunning (c .frames) sum' → sum' ≡ withFrames (scratch 0 (c .frames)) (addedFrom (trackFrame d c samples j)) sum → sends' ≡ onSends (c .frames) (withTrackSends d c samples j) sends → TracksLeft c samples d line links sum₀ sends₀ sum' sends' next
-    tracks-turn {next} {sum'} {sends'} at h run a b =
+    pub tracks-turn : {next : ℕ} {sum' sends' : List Float} → next ≡ lineBefore links j → 0 < j → AllRunning (c .frames) sum' → SendsRunning c sends' → sum' ≡ withFrames (scratch 0 (c .frames)) (addedFrom (trackFrame d c samples j)) sum → sends' ≡ onSends (c .frames) (withTrackSends d c samples j) sends → TracksLeft c samples d line links sum₀ sends₀ sum' sends' next
+    tracks-turn {next} {sum'} {sends'} at h run sent a b =
         let s = f .linked in
         record {
           linked = s;
@@ -63,7 +63,7 @@ module _ {c : Chunk} {samples : Recordings} (ok : ChunkOk c samples) (d line : �
               follow-turn (withFrames (scratch 0 (c .frames))) (subStep d c samples line) (c .«track_count») (usedParent c (s .used)) line sum₀ j sum (sum-skips ok (s .all) d line few sum₀ sum' run) room few (s .links) at h (f .summed)
               (a ∙ sub-taken d c samples line j sum h (parent-is h));
           sent =
-              follow-turn (allSends (c .frames)) (subSend d c samples line) (c .«track_count») (usedParent c (s .used)) line sends₀ j sends (sends-skip ok (s .all) d line few sends₀ sends') room few (s .links) at h (f .sent)
+              follow-turn (allSends (c .frames)) (subSend d c samples line) (c .«track_count») (usedParent c (s .used)) line sends₀ j sends (sends-skip ok (s .all) d line few sends₀ sends' sent) room few (s .links) at h (f .sent)
               (b ∙ send-taken d c samples line j sends h (parent-is h));
         }
 

@@ -1,14 +1,13 @@
--- Tracks that no sound and no route is on, nor on a track below them: their frames are zeros, for a zero times what is finite is a zero, and they send
--- nothing. So a loop over the tracks below a line may pass over them where its sum is running. Assumes nothing.
+-- Tracks that no sound is on, nor on a track below them: their frames are zeros, for a zero times what is finite is a zero, and so is what they send.
+-- A loop over the tracks below a line may pass over them where its sum and the send tracks' inputs are running. Assumes nothing.
 use mathlib.Core.Path.{_≡_, refl, sym, ap, _∙_, subst}
 use mathlib.Core.Bool.{Bool, true, false, cond, _&&_, true≢false}
 use mathlib.Core.List.{List}
 use Prim.Native.Nat.{ℕ, zero, suc, _-_, _≤_, _<_}
 use native.Mathlib.Omega.{arith}
-use borrow.Author.Tests.{ne-eqb}
 use lib.Dec.{T, eqb, eqb→eq, lit<}
 use lib.Ieee.{Float, binary32, mul, sub}
-use lib.Ieee.Fits.{add-fits}
+use lib.Ieee.Fits.{add-fits, and-r}
 use lib.Ieee.Scale.{finite}
 use Rattle.recordings.specs.Recordings.{Recordings}
 use Rattle.limits.specs.Limits.{trackPlaces}
@@ -31,7 +30,7 @@ use Rattle.links.specs.Links.{owners}
 use Rattle.frame.specs.declared.frame.Frame.{Frame}
 use Rattle.frame.specs.Frame.{zeroFrame, added, scaled}
 use Rattle.frame.specs.Layout.{scratch, frameAt, withFrames}
-use Rattle.frame.specs.Running.{Both, AllRunning}
+use Rattle.frame.specs.Running.{Both, Running, AllRunning}
 use Rattle.frame.proofs.laws.Layout.{first-held}
 use Rattle.chunk.specs.declared.chunk.Level.{Level}
 use Rattle.chunk.specs.declared.chunk.ChunkTrack.{ChunkTrack}
@@ -39,10 +38,11 @@ use Rattle.chunk.specs.declared.chunk.Chunk.{Chunk}
 use Rattle.chunk.specs.Chunk.{amountAt, levelAmplitude, trackAmplitude, LevelInRange, ChunkOk, trackRow, routeRow, soundRow}
 use Rattle.chunk.proofs.laws.Chunk.{IsAmount, amount-is, level-admitted}
 use Rattle.track.specs.Owners.{UsedTracks, usedParent}
+use Rattle.track.specs.Send.{sendLayout, SendsRunning}
 use Rattle.track.specs.Sound.{addedSound, withSounds}
 use Rattle.track.specs.Sub.{overSubTracks, sumOver, trackSum, trackFrame, withRoutes, withTrackSends, placed}
 use Rattle.track.proofs.laws.Running.{zeros, running-zero, picked-if, absorbed}
-use Rattle.track.proofs.laws.Send.{allSends, onSends-same}
+use Rattle.track.proofs.laws.Send.{allSends, onSends-held}
 use Rattle.track.proofs.laws.Owners.{Skips}
 use Rattle.track.proofs.laws.Sub.{subStep, subSend}
 
@@ -80,9 +80,6 @@ module _ {c : Chunk} {samples : Recordings} (ok : ChunkOk c samples) {used : ℕ
     no-sound : (k : ℕ) → k < c .«sound_count» → soundRow c k .track ≡ line → ⊥
     no-sound k h q = true≢false (sym (u .sounds k h (omega (arith, q, few))) ∙ ap used q ∙ e)
 
-    no-route : (r : ℕ) → r < c .«route_count» → routeRow c r .track ≡ line → ⊥
-    no-route r h q = true≢false (sym (u .routes r h (omega (arith, q, few))) ∙ ap used q ∙ e)
-
     below-unused : (j : ℕ) → j < c .«track_count» → T (eqb (trackRow c j .parent) line) → used (suc j) ≡ false
     below-unused j h t = not-so (used (suc j)) (λ y. true≢false (sym (u .parents j h y) ∙ ap used (eqb→eq (trackRow c j .parent) line t) ∙ e))
 
@@ -91,12 +88,6 @@ module _ {c : Chunk} {samples : Recordings} (ok : ChunkOk c samples) {used : ℕ
     no-sounds i a =
         downto-holds (λ k x. x ≡ a) (λ k x. cond (eqb (soundRow c k .track) line) (addedSound samples (soundRow c k) i x) x) (c .«sound_count») a refl
         (λ k h x q. leaves-eq (soundRow c k .track) line (addedSound samples (soundRow c k) i x) x (no-sound k h) ∙ q)
-
-    no-routes : (s : ℕ) (frame a : Frame) → withRoutes c line s frame a ≡ a
-    unfolding withRoutes
-    no-routes s frame a =
-        upto-holds (λ r x. x ≡ a) (λ r x. cond (eqb (routeRow c r .track) line && eqb (routeRow c r .send) s) (added x (scaled frame (routeRow c r .amplitude))) x) (c .«route_count») a refl
-        (λ r h x q. ap (λ (b : Bool). cond (b && eqb (routeRow c r .send) s) (added x (scaled frame (routeRow c r .amplitude))) x) (ne-eqb (routeRow c r .track) line (no-route r h)) ∙ q)
 
     -- a step on the tracks right below it, which leaves a as it is where they are not used
     none-below : (step : ℕ → Frame → Frame) (a : Frame) → ((j : ℕ) → j < c .«track_count» → used (suc j) ≡ false → step (suc j) a ≡ a) → overSubTracks c line step a ≡ a
@@ -122,14 +113,29 @@ module _ {c : Chunk} {samples : Recordings} (ok : ChunkOk c samples) {used : ℕ
       (zeros-placed (track .placing) (ok .placings (line - 1) here) (subst (Both Zero) (sym empty) zeros)))
       zeros
 
-  pub unused-sends : (d line s i : ℕ) (a : Frame) → line ≤ c .«track_count» → used line ≡ false → withTrackSends d c samples line s i a ≡ a
+  -- a route to send track s: what is there is running
+  abbrev Sent : ℕ → Frame → Type 0
+  Sent s a = (r : ℕ) → r < c .«route_count» → routeRow c r .send ≡ s → Both Running a
+
+  zeros-sent : (line s : ℕ) (frame a : Frame) → Both Zero frame → Sent s a → withRoutes c line s frame a ≡ a
+  unfolding withRoutes
+  zeros-sent line s frame a z run =
+      upto-holds (λ r x. x ≡ a) (λ r x. cond (eqb (routeRow c r .track) line && eqb (routeRow c r .send) s) (added x (scaled frame (routeRow c r .amplitude))) x) (c .«route_count») a refl
+      (λ r h x q. picked-if (λ y. y ≡ a) (eqb (routeRow c r .track) line && eqb (routeRow c r .send) s) (added x (scaled frame (routeRow c r .amplitude))) x
+      (λ t. ap (λ (y : Frame). added y (scaled frame (routeRow c r .amplitude))) q
+      ∙ absorbed (run r h (eqb→eq (routeRow c r .send) s (and-r (eqb (routeRow c r .track) line) (eqb (routeRow c r .send) s) t))) (zeros-scaled (routeRow c r .amplitude) (ok .amplitudes r h) z))
+      q)
+
+  unused-sends : (d line s i : ℕ) (a : Frame) → 1 ≤ line → line ≤ c .«track_count» → used line ≡ false → i < c .frames → Sent s a → withTrackSends d c samples line s i a ≡ a
   unfolding withTrackSends
-  unused-sends zero line s i a high e = refl
-  unused-sends (suc d) line s i a high e =
+  unused-sends zero line s i a low high e p run = refl
+  unused-sends (suc d) line s i a low high e p run =
       let few : line ≤ trackPlaces = omega (arith, high, ok .tracks) in
       let step : ℕ → Frame → Frame = λ below x. withTrackSends d c samples below s i x in
-      picked-if (λ x. x ≡ a) (trackRow c (line - 1) .advancing) (withRoutes c line s (trackFrame (suc d) c samples line i) (overSubTracks c line step a)) a
-      (λ t. no-routes line few e s (trackFrame (suc d) c samples line i) (overSubTracks c line step a) ∙ none-below line few e step a (λ j l n. unused-sends d (suc j) s i a l n))
+      let frame : Frame = trackFrame (suc d) c samples line i in
+      picked-if (λ x. x ≡ a) (trackRow c (line - 1) .advancing) (withRoutes c line s frame (overSubTracks c line step a)) a
+      (λ t. ap (withRoutes c line s frame) (none-below line few e step a (λ j l n. unused-sends d (suc j) s i a (omega arith) l n p run))
+      ∙ zeros-sent line s frame a (unused-zeros (suc d) line i low high e p) run)
       refl
 
   -- ---- a loop over the tracks below `line`
@@ -146,7 +152,10 @@ module _ {c : Chunk} {samples : Recordings} (ok : ChunkOk c samples) {used : ℕ
         (λ i p. picked-if (λ y. y ≡ frameAt L x i) (eqb (trackRow c k .parent) line) (added (frameAt L x i) (trackFrame d c samples (suc k) i)) (frameAt L x i)
         (λ t. absorbed (run i p) (unused-zeros d (suc k) i (omega arith) h (not-linked k n t) p)) refl)
 
-    pub sends-skip : (x : List Float) → Skips (allSends (c .frames)) (subSend d c samples line) (c .«track_count») (usedParent c used) line begun x
-    sends-skip x k h n =
-        onSends-same (c .frames) (λ s i a. subSend d c samples line k (s, i) a) x
-        (λ s i a. picked-if (λ y. y ≡ a) (eqb (trackRow c k .parent) line) (withTrackSends d c samples (suc k) s i a) a (λ t. unused-sends d (suc k) s i a h (not-linked k n t)) refl)
+    pub sends-skip : (x : List Float) → SendsRunning c x → Skips (allSends (c .frames)) (subSend d c samples line) (c .«track_count») (usedParent c used) line begun x
+    sends-skip x run k h n =
+        onSends-held (c .frames) (λ s i a. subSend d c samples line k (s, i) a) x
+        (λ s i q p.
+        let a : Frame = frameAt (sendLayout s (c .frames)) x i in
+        picked-if (λ y. y ≡ a) (eqb (trackRow c k .parent) line) (withTrackSends d c samples (suc k) (suc s) i a) a
+        (λ t. unused-sends d (suc k) (suc s) i a (omega arith) h (not-linked k n t) p (λ r b e. run s i (omega (arith, ok .routed r b .1, e)) p)) refl)

@@ -88,7 +88,7 @@ sub-track-links-requires c κs =
     let few = chunk-fits (start .args .scene) (c .before .before .before .before .before .before .before .new .result) (start .pre .0) (start .args .scene .head .buffer) (c .before .before .before .before .before .chunk-of .ensures) in
     let long = ap length (c .before .flatten .ensures .0) ∙ places-length (c .before .before .before .before .before .chunk-of .result) in
     let earlier = parents-earlier (start .pre .0) (start .pre .1 .0) (c .before .before .before .before .before .before .before .new .ensures) (c .before .before .before .before .before .chunk-of .ensures) (c .before .flatten .ensures .0) (c .before .flatten .ensures .1 .0) (c .before .flatten .ensures .1 .1) in
-    (long, ((few .0, few .1, few .2), earlier))
+    (long, ((few .0, few .1), earlier))
 
 slice-aggregate-links-of : tie.Need-slice-aggregate-links-of
 slice-aggregate-links-of c = sym (ap length (c .before .before .before .flatten .ensures .0) ∙ places-length (c .before .before .before .before .before .before .before .chunk-of .result))

@@ -14,6 +14,7 @@ use Rattle.track.specs.Sub.{withSubSends}
 use Rattle.track.specs.Mix.{tracksSet, withSendTracks}
 use Rattle.frame.proofs.laws.Layout.{kept}
 use Rattle.track.proofs.laws.Mix.{chunk-mixed}
+use Rattle.track.proofs.laws.RunningSends.{sends-cleared}
 use Rattle.track.proofs.mix.process_flat.Statement.{statement}
 use Rattle.track.proofs.mix.process_flat.Tie as tie
 
@@ -31,8 +32,14 @@ clear-sends-requires c κs =
 process-tracks-requires : tie.Need-process-tracks-requires
 process-tracks-requires c κs =
     let start = c .before .before .before .before .before .before .before .before .before .before .before .before in
+    let args = start .args in
+    let chunk = chunkFrom (args .places .now) (args .levels .now) (args .amplitudes .now) in
+    let samples = recordings (args .samples .now) (args .visitor .now) in
+    let ok = start .pre .1 .0 in
     let links = start .pre .1 .1 .0 in
-    (start .pre .0, (start .pre .1 .0, ((links .subTracks, links .sounds, links .routes), (start .pre .1 .1 .1 .0, (start .pre .1 .1 .1 .1 .0, c .before .before .before .before .clear-sends .kept .0 ∙ start .pre .1 .1 .1 .1 .1)))))
+    let clears = c .before .before .before .before .clear-sends in
+    let sent = sends-cleared chunk samples (args .sends .now) (ok .short) (ok .sends) (start .pre .1 .1 .1 .1 .1) (clears .ensures) in
+    (start .pre .0, (ok, ((links .subTracks, links .sounds, links .routes), (start .pre .1 .1 .1 .0, (start .pre .1 .1 .1 .1 .0, (clears .kept .0 ∙ start .pre .1 .1 .1 .1 .1, sent))))))
 
 add-sends-requires : tie.Need-add-sends-requires
 add-sends-requires c κs =

@@ -18,14 +18,16 @@ use Rattle.track.specs.Sub.{trackFrame, withTrackSends}
 use Rattle.track.proofs.laws.Tracks.{TracksLeft, tracks-begin, tracks-less, tracks-turn, tracks-end}
 use Rattle.track.proofs.laws.Sub.{subSum}
 use Rattle.frame.specs.Running.{AllRunning}
+use Rattle.track.specs.Send.{SendsRunning}
 use Rattle.track.proofs.laws.Running.{running-cleared, running-track}
+use Rattle.track.proofs.laws.RunningSends.{sends-running}
 use Rattle.track.proofs.laws.Mix.{tracks-mixed}
 use Rattle.track.proofs.laws.Send.{onSends-length}
 use Rattle.track.proofs.mix.process_tracks.Statement.{statement}
 use Rattle.track.proofs.mix.process_tracks.Tie as tie
 
 abbrev Inv : Chunk → Recordings → List ℕ → List Float → List Float → List Float → List Float → ℕ → Type 0
-Inv chunk samples links out₀ sends₀ out sends j = (length out ≡ length out₀) × (length sends ≡ length sends₀) × TracksLeft chunk samples trackDepth 0 links out₀ sends₀ out sends j × AllRunning (chunk .frames) out
+Inv chunk samples links out₀ sends₀ out sends j = (length out ≡ length out₀) × (length sends ≡ length sends₀) × TracksLeft chunk samples trackDepth 0 links out₀ sends₀ out sends j × AllRunning (chunk .frames) out × SendsRunning chunk sends
 
 abbrev Inv-loop : tie.InvT-loop
 Inv-loop places levels amplitudes sub-tracks sounds routes parts table samples visitor out₀ sends₀ frames j₀ out sends j = Inv (chunkFrom places levels amplitudes) (recordings samples visitor) sub-tracks out₀ sends₀ out sends j
@@ -48,7 +50,8 @@ loop-holds c =
     let args = start .args in
     let chunk = chunkFrom (args .places .now) (args .levels .now) (args .amplitudes .now) in
     let run = running-cleared (chunk .frames) (args .out .now) (start .pre .1 .1 .1 .1 .0) (c .before .before .before .clear .ensures) in
-    (refl, refl, tracks-begin (start .pre .1 .0) trackDepth 0 (omega arith) _ (args .sends .now) (start .pre .1 .1 .0 .0) run (c .last-line .ensures), run)
+    let sent = start .pre .1 .1 .1 .1 .1 .1 in
+    (refl, refl, tracks-begin (start .pre .1 .0) trackDepth 0 (omega arith) _ (args .sends .now) (start .pre .1 .1 .0 .0) run sent (c .last-line .ensures), run, sent)
 
 process-requires : tie.Need-process-requires Inv-loop μ-loop
 process-requires c κs =
@@ -58,7 +61,7 @@ process-requires c κs =
     let ok = start .pre .1 .0 in
     let inv = c .before .before .before .loop .inv in
     let cleared-length = kept (scratch 0 (chunk .frames)) cleared (chunk .frames) (args .out .now) (c .before .before .before .before .before .before .before .clear .ensures) in
-    (start .pre .0, (ok, (start .pre .1 .1 .0, (start .pre .1 .1 .1 .0, ((c .before .before .loop-test .taken, inv .2 .summed .few), (omega (arith, inv .0, cleared-length, start .pre .1 .1 .1 .1 .0), (inv .1 ∙ start .pre .1 .1 .1 .1 .1, inv .3)))))))
+    (start .pre .0, (ok, (start .pre .1 .1 .0, (start .pre .1 .1 .1 .0, ((c .before .before .loop-test .taken, inv .2 .summed .few), (omega (arith, inv .0, cleared-length, start .pre .1 .1 .1 .1 .0), (inv .1 ∙ start .pre .1 .1 .1 .1 .1 .0, (inv .3, inv .4))))))))
 
 line-before-requires : tie.Need-line-before-requires Inv-loop μ-loop
 line-before-requires c κs =
@@ -85,11 +88,14 @@ loop-again c =
     let out = l .before .before .before .before .clear .last .0 in
     let made = c .before .before .before .before .before .process .ensures in
     let cleared-length = kept (scratch 0 (chunk .frames)) cleared (chunk .frames) (args .out .now) (l .before .before .before .before .clear .ensures) in
-    let run = running-track (chunk .frames) (l .loop .out) (omega (arith, inv .0, cleared-length, start .pre .1 .1 .1 .1 .0)) trackDepth chunk samples j (inv .3) (made .0) in (
+    let run = running-track (chunk .frames) (l .loop .out) (omega (arith, inv .0, cleared-length, start .pre .1 .1 .1 .1 .0)) trackDepth chunk samples j (inv .3) (made .0) in
+    let ok = start .pre .1 .0 in
+    let sent = sends-running chunk samples (l .loop .sends) (ok .short) (ok .sends) (inv .1 ∙ start .pre .1 .1 .1 .1 .1 .0) trackDepth j (inv .4) (made .1) in (
       kept (scratch 0 (chunk .frames)) (addedFrom (trackFrame trackDepth chunk samples j)) (chunk .frames) (l .loop .out) (made .0) ∙ inv .0,
       ap length (made .1) ∙ onSends-length (chunk .frames) (withTrackSends trackDepth chunk samples j) (l .loop .sends) ∙ inv .1,
-      tracks-turn (start .pre .1 .0) trackDepth 0 (omega arith) out (args .sends .now) (inv .2) (c .line-before .ensures) h run (made .0) (made .1),
+      tracks-turn (start .pre .1 .0) trackDepth 0 (omega arith) out (args .sends .now) (inv .2) (c .line-before .ensures) h run sent (made .0) (made .1),
       run,
+      sent,
     )
 
 same-length : tie.Need-same-length Inv-loop μ-loop
@@ -111,7 +117,7 @@ returns c =
     let long = start .pre .1 .1 .1 .1 .0 in
     let clears = c .before .before .before .before .before .clear .ensures in
     let cleared-length = kept L cleared n (args .out .now) clears in
-    let mixed = tracks-end (start .pre .1 .0) trackDepth 0 (omega arith) out (args .sends .now) (inv .2) (omega (arith, cleared-length, long)) (start .pre .1 .1 .1 .1 .1) (omega (arith, c .loop-test .left)) in
+    let mixed = tracks-end (start .pre .1 .0) trackDepth 0 (omega arith) out (args .sends .now) (inv .2) (omega (arith, cleared-length, long)) (start .pre .1 .1 .1 .1 .1 .0) (omega (arith, c .loop-test .left)) in
     (tracks-mixed chunk samples (args .out .now) long (mixed .0 ∙ ap (withFrames L (subSum trackDepth chunk samples 0)) clears), mixed .1)
 
 pub process-tracks-spec : {M : Type 1} → statement M

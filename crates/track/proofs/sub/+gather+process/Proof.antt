@@ -22,7 +22,9 @@ use Rattle.spatial.specs.Spatial.{PlacingIn}
 use Rattle.chunk.specs.Flat.{chunkFrom}
 use Rattle.track.specs.Sub.{trackFrame, withTrackSends, trackPlacedScaled, sumSet, withSubSends}
 use Rattle.frame.proofs.laws.Layout.{kept}
+use Rattle.track.specs.Send.{SendsRunning}
 use Rattle.track.proofs.laws.Running.{zero-silent, running-silent, running-track}
+use Rattle.track.proofs.laws.RunningSends.{sends-running}
 use Rattle.track.proofs.laws.Send.{onSends-length}
 use Rattle.track.proofs.laws.Tracks.{TracksLeft, tracks-begin, tracks-less, tracks-turn, tracks-end}
 use Rattle.track.proofs.laws.Sub.{sum-gathered, track-added, track-mixed, track-stopped, track-none, sends-mixed, sends-stopped, sends-none}
@@ -55,6 +57,7 @@ Inv chunk samples links line d out₀ sends₀ out sends j =
     × (length sends ≡ length sends₀)
     × TracksLeft chunk samples d line links out₀ sends₀ out sends j
     × AllRunning (chunk .frames) out
+    × SendsRunning chunk sends
 
 abbrev μ-gather : Measures 11 gather-kinds.ps ℕ
 μ-gather κs a = 2 * a .1 .1 .1 .1 .1 .1 .1 .1 .1 .1 .1 .0 + 1
@@ -116,7 +119,8 @@ gather-loop-holds t c =
     let d = args .depth in
     let few : line ≤ trackPlaces = omega (arith, start .pre .1 .1 .1 .1 .1 .0 .1, ok .tracks) in
     let run = running-silent n (args .out .now) (start .pre .1 .1 .1 .1 .1 .1 .1 .1 .0) in
-    (refl, refl, tracks-begin ok d line few (args .out .now) (args .sends .now) (start .pre .1 .1 .1 .0 .0) run (c .last-line .ensures), run)
+    let sent = start .pre .1 .1 .1 .1 .1 .1 .1 .1 .1 .1 in
+    (refl, refl, tracks-begin ok d line few (args .out .now) (args .sends .now) (start .pre .1 .1 .1 .0 .0) run sent (c .last-line .ensures), run, sent)
 
 gather-process-requires : (t : ℕ) → gather-lts.Need-process-requires (
   last-line-reads.Asked,
@@ -134,7 +138,7 @@ gather-process-requires t c κs =
     let inv = l .loop .inv in
     let pre = start .pre .1 in
     let long = start .pre .1 .1 .1 .1 .1 .1 .0 in
-    (omega (arith, start .pre .0), (pre .0, (pre .1 .0, (pre .1 .1 .0, (pre .1 .1 .1 .0, ((c .before .before .loop-test .taken, inv .2 .summed .few), (omega (arith, long, inv .0), (inv .1 ∙ start .pre .1 .1 .1 .1 .1 .1 .1 .0, inv .3))))))))
+    (omega (arith, start .pre .0), (pre .0, (pre .1 .0, (pre .1 .1 .0, (pre .1 .1 .1 .0, ((c .before .before .loop-test .taken, inv .2 .summed .few), (omega (arith, long, inv .0), (inv .1 ∙ start .pre .1 .1 .1 .1 .1 .1 .1 .0, (inv .3, inv .4)))))))))
 
 gather-line-before-requires : (t : ℕ) → gather-lts.Need-line-before-requires (
   last-line-reads.Asked,
@@ -201,11 +205,13 @@ gather-loop-again t c =
     let h = c .before .before .before .before .before .before .before .before .loop-test .taken in
     let few : line ≤ trackPlaces = omega (arith, start .pre .1 .1 .1 .1 .1 .0 .1, ok .tracks) in
     let made = c .before .before .before .before .before .process .ensures in
-    let run = running-track n (l .loop .out) (omega (arith, inv .0, start .pre .1 .1 .1 .1 .1 .1 .0)) d chunk samples j (inv .3) (made .0) in (
+    let run = running-track n (l .loop .out) (omega (arith, inv .0, start .pre .1 .1 .1 .1 .1 .1 .0)) d chunk samples j (inv .3) (made .0) in
+    let sent = sends-running chunk samples (l .loop .sends) (ok .short) (ok .sends) (inv .1 ∙ start .pre .1 .1 .1 .1 .1 .1 .1 .0) d j (inv .4) (made .1) in (
       kept L (addedFrom (trackFrame d chunk samples j)) n (l .loop .out) (made .0) ∙ inv .0,
       ap length (made .1) ∙ onSends-length n (withTrackSends d chunk samples j) (l .loop .sends) ∙ inv .1,
-      tracks-turn ok d line few (args .out .now) (args .sends .now) (inv .2) (c .line-before .ensures) h run (made .0) (made .1),
+      tracks-turn ok d line few (args .out .now) (args .sends .now) (inv .2) (c .line-before .ensures) h run sent (made .0) (made .1),
       run,
+      sent,
     )
 
 gather-add-sounds-and-scale-requires : (t : ℕ) → gather-lts.Need-add-sounds-and-scale-requires (
@@ -225,7 +231,7 @@ gather-add-sounds-and-scale-requires t c κs =
     let pre = start .pre .1 in
     let ok = pre .1 .0 in
     let lines = start .pre .1 .1 .1 .1 .1 .0 in
-    let row = sym (start .pre .1 .1 .1 .1 .1 .1 .1 .1 .1) in
+    let row = sym (start .pre .1 .1 .1 .1 .1 .1 .1 .1 .1 .0) in
     let here : args .line - 1 < chunk .«track_count» = omega (arith, lines .0, lines .1) in
     let level : (f : ChunkTrack → Level) → LevelInRange (f (trackRow chunk (args .line - 1))) → LevelInRange (f (args .track)) = λ f. subst (λ (t : ChunkTrack). LevelInRange (f t)) row in
     let placing : PlacingIn (trackRow chunk (args .line - 1) .placing) → PlacingIn (args .track .placing) = subst (λ (t : ChunkTrack). PlacingIn (t .placing)) row in
@@ -322,7 +328,7 @@ process-returns t c =
     let line = args .line in
     let ok = start .pre .1 .1 .0 in
     let none = c .if1 .taken in
-    (track-none (args .depth) chunk samples line (args .to .now) none (start .pre .1 .1 .1 .1 .1 .1 .1 .1), sends-none (args .depth) chunk samples line (args .sends .now) none)
+    (track-none (args .depth) chunk samples line (args .to .now) none (start .pre .1 .1 .1 .1 .1 .1 .1 .1 .0), sends-none (args .depth) chunk samples line (args .sends .now) none)
 
 process-returns-2 : (t : ℕ) → process-lts.Need-returns-2 (
   track-at-reads.Asked,
@@ -344,7 +350,7 @@ process-returns-2 t c =
     let d = args .depth - 1 in
     let deep : args .depth ≡ suc d = omega (arith, c .before .before .if1 .left) in
     let stops = ap (λ (t : ChunkTrack). t .advancing) (sym (c .before .before .before .track-at .ensures)) ∙ not-true _ (c .if2 .taken) in
-    (track-stopped (args .depth) d chunk samples line (args .to .now) deep (start .pre .1 .1 .1 .1 .1 .1 .1 .1) stops, sends-stopped (args .depth) d chunk samples line (args .sends .now) deep stops)
+    (track-stopped (args .depth) d chunk samples line (args .to .now) deep (start .pre .1 .1 .1 .1 .1 .1 .1 .1 .0) stops, sends-stopped (args .depth) d chunk samples line (args .sends .now) deep stops)
 
 process-sub-gather : (t : ℕ) → process-lts.Need-sub-gather (
   track-at-reads.Asked,
@@ -381,7 +387,7 @@ process-gather-requires t c κs =
     let chunk = chunkFrom (args .places .now) (args .levels .now) (args .amplitudes .now) in
     let pre = start .pre .1 in
     let ok = pre .1 .0 in
-    (omega (arith, start .pre .0, c .before .before .before .before .if1 .left), (pre .0, (ok, (pre .1 .1 .0, (pre .1 .1 .1 .0, (start .pre .1 .1 .1 .1 .1 .0, (omega (arith, ok .short), (start .pre .1 .1 .1 .1 .1 .1 .1 .0, (zero-silent scratchPlaces (chunk .frames) (omega (arith, ok .short)), c .before .before .before .before .before .track-at .ensures)))))))))
+    (omega (arith, start .pre .0, c .before .before .before .before .if1 .left), (pre .0, (ok, (pre .1 .1 .0, (pre .1 .1 .1 .0, (start .pre .1 .1 .1 .1 .1 .0, (omega (arith, ok .short), (start .pre .1 .1 .1 .1 .1 .1 .1 .0, (zero-silent scratchPlaces (chunk .frames) (omega (arith, ok .short)), (c .before .before .before .before .before .track-at .ensures, start .pre .1 .1 .1 .1 .1 .1 .1 .1 .1))))))))))
 
 process-slice-aggregate-hand-on : (t : ℕ) → process-lts.Need-slice-aggregate-hand-on (
   track-at-reads.Asked,

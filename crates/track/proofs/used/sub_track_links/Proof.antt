@@ -1,4 +1,4 @@
--- The marks of sounds and routes, of the tracks above them, the column of the tracks with marks, and its links follow one another.
+-- The marks of sounds, of the tracks above them, the column of the tracks with marks, and its links follow one another.
 use borrow.Author.Needs.{needs}
 use Rattle.track.proofs.laws.Owners.{links-used}
 use Rattle.track.proofs.used.sub_track_links.Statement.{statement}
@@ -9,12 +9,6 @@ slice-aggregate-mark-owners c = search needs
 
 mark-owners-requires : tie.Need-mark-owners-requires
 mark-owners-requires c κs = search needs
-
-slice-aggregate-mark-owners-2 : tie.Need-slice-aggregate-mark-owners-2
-slice-aggregate-mark-owners-2 c = search needs
-
-mark-owners-requires-2 : tie.Need-mark-owners-requires-2
-mark-owners-requires-2 c κs = search needs
 
 slice-aggregate-mark-above : tie.Need-slice-aggregate-mark-above
 slice-aggregate-mark-above c = search needs
@@ -36,9 +30,9 @@ links-of-requires c κs = search needs
 
 returns : tie.Need-returns
 returns c =
-    let start = c .before .before .before .before .before .before .before .before .before .before .before .before .before .before in
+    let start = c .before .before .before .before .before .before .before .before .before .before .before in
     let args = start .args in
-    links-used (args .places .now) (args .tracks) (args .sounds) (args .routes) (start .pre .1 .0 .0) (c .before .before .before .before .before .before .before .before .before .before .before .mark-owners .ensures) (c .before .before .before .before .before .before .before .before .mark-owners2 .ensures) (c .before .before .before .before .before .mark-above .ensures) (c .before .before .used-owners .ensures) (c .links-of .ensures)
+    links-used (args .places .now) (args .tracks) (args .sounds) (start .pre .1 .0 .0) (c .before .before .before .before .before .before .before .before .mark-owners .ensures) (c .before .before .before .before .before .mark-above .ensures) (c .before .before .used-owners .ensures) (c .links-of .ensures)
 
 pub sub-track-links-spec : {M : Type 1} → statement M
 sub-track-links-spec =
@@ -46,8 +40,6 @@ sub-track-links-spec =
     (tie.spec
     slice-aggregate-mark-owners
     mark-owners-requires
-    slice-aggregate-mark-owners-2
-    mark-owners-requires-2
     slice-aggregate-mark-above
     mark-above-requires
     slice-aggregate-used-owners
