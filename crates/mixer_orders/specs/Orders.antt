@@ -1,12 +1,11 @@
 -- `on_start_processing` on arrays: what the orders of a block do. They change parameters and playback states, and no level: `levels` is read alone.
 use mathlib.Core.Path.{_≡_}
-use mathlib.Core.Bool.{Bool, true, false, cond, _&&_}
+use mathlib.Core.Bool.{cond}
 use mathlib.Core.List.{List}
 use Prim.Native.Nat.{ℕ, _-_, _≤_, _<_}
-use lib.Dec.{eqb}
 use lib.Ieee.{Float}
 use lib.ListN.{getD}
-use Rattle.limits.specs.Limits.{trackPlaces, sendLines, routeLines}
+use Rattle.limits.specs.Limits.{trackPlaces, sendLines, routeLines, orderLines, blocksMost}
 use Rattle.laws.specs.Loop.{upto}
 use Rattle.decibels.specs.declared.decibels.Decibels.{Decibels}
 use Rattle.tween.specs.declared.start_time.StartTime.{StartTime}
@@ -19,6 +18,8 @@ use Rattle.scene.specs.declared.scene.OrderKind.the-variants.{MainVolume, Track
 use Rattle.accepted.specs.Lines.{absentOrderLine}
 use Rattle.accepted.specs.SceneOk.{Names}
 use Rattle.order_lines.specs.Orders.{tweenOf, resumeTweenOf, counts}
+use Rattle.order_table.specs.Table.{Table, TableSized, blockAt, orderFrom}
+use Rattle.order_links.specs.Links.{blockLinks}
 use Rattle.chunk.specs.declared.chunk.Level.{Level}
 use Rattle.chunk.specs.Flat.{mainFrom, levelFrom, sendFrom}
 use Rattle.parameter_store.specs.Store.{Numbers, parameterFrom, routeLevel, withParameter}
@@ -70,18 +71,6 @@ resumeStepOn levels orders count block i n = cond (counts orders count block i) 
 unfoldable pub stateOrdered : List Float → List OrderLine → ℕ → ℕ → Numbers → Numbers
 stateOrdered levels orders count block n = upto (resumeStepOn levels orders count block) count (upto (orderStepOn levels orders count block) count n)
 
--- whether a line is a resume of this block: other lines the second pass leaves out
-unfoldable pub isResume : OrderKind → Bool
-isResume MainVolume = false
-isResume TrackVolume = false
-isResume SendVolume = false
-isResume RouteVolume = false
-isResume Pause = false
-isResume Resume = true
-
-unfoldable pub resumesIn : OrderLine → ℕ → Bool
-resumesIn o block = eqb (o .block) block && isResume (o .kind)
-
 -- ---- what the code asks
 
 abbrev pub IndexThere : OrderKind → ℕ → Type 0
@@ -96,5 +85,11 @@ pub record OrderThere (o : OrderLine) : Type 0 where
   pub index : IndexThere (o .kind) (o .index)
   pub millis : o .millis ≤ 3600000
 
-abbrev pub OrdersThere : List OrderLine → ℕ → Type 0
-OrdersThere orders count = (i : ℕ) → i < count → OrderThere (lineOf orders i)
+-- of the table of orders, and of its links
+pub record TableOk (count block : ℕ) (t : Table) (links : List ℕ) : Type 0 where
+  pub few : count ≤ orderLines
+  pub inside : block < blocksMost
+  pub sized : TableSized t
+  pub there : (i : ℕ) → i < count → OrderThere (orderFrom t i)
+  pub blocks : (i : ℕ) → i < count → blockAt (t .lines) i < blocksMost
+  pub linked : links ≡ blockLinks (blockAt (t .lines)) count

@@ -1,13 +1,14 @@
 // The orders of a block, read at its start: they stand for kira's command readers.
 ghost use mathlib.Core.Bool.{cond};
 ghost use mathlib.Core.Path.{_≡_};
-ghost use Prim.Native.Nat.{_≤_};
+ghost use mathlib.Core.List.{List};
 ghost use lib.ListN.{length};
-ghost use Rattle.limits.specs.Limits.{orderLines};
 ghost use Rattle.laws.specs.Loop.{upto};
+ghost use Rattle.scene.specs.declared.scene.OrderLine.{OrderLine};
 ghost use Rattle.order_lines.specs.Orders.{lastLines};
+ghost use Rattle.order_table.specs.Table.{tableOf, LinesIn, OrdersIn};
 ghost use Rattle.parameter_store.specs.Store.{numbers, kindsSize, countsSize, shortsSize, valuesSize, timesSize};
-ghost use Rattle.mixer_orders.specs.Orders.{orderOn, resumeOn, resumesIn, orderStepOn, resumeStepOn, stateOrdered, OrderThere, OrdersThere};
+ghost use Rattle.mixer_orders.specs.Orders.{orderOn, resumeOn, orderStepOn, resumeStepOn, stateOrdered, OrderThere, TableOk};
 use crate::playbacks::pause_track;
 use crate::playbacks::resume_track;
 use crate::volumes::set_main_volume;
@@ -15,12 +16,15 @@ use crate::volumes::set_route_volume;
 use crate::volumes::set_send_volume;
 use crate::volumes::set_track_volume;
 use chunk::Levels;
-use limits::ORDER_LINES;
 use order_lines::Marks;
 use order_lines::counts_by;
-use order_lines::last_lines;
 use order_lines::resume_tween_of;
 use order_lines::tween_of;
+use order_links::OrderLinks;
+use order_links::first_line;
+use order_links::last_lines;
+use order_links::next_line;
+use order_table::order_at;
 use scene::OrderKind;
 use scene::OrderLine;
 
@@ -131,7 +135,7 @@ fn resume(
     }
 }
 
-// An order, where it counts. It is passed with the answer, since an array of orders would be copied.
+// An order, where it counts.
 fn order_where(
     levels: &Levels,
     kinds: &mut [usize],
@@ -180,24 +184,7 @@ fn resume_where(
     }
 }
 
-// Whether a line is a resume of this block.
-fn resumes_in(order: OrderLine, block: usize) -> bool
-    ensures { λ r. ⌜ r ≡ resumesIn order block ⌝ }
-{
-    if order.block != block {
-        return false;
-    }
-    let kind = order.kind;
-    match kind {
-        OrderKind::MainVolume => false,
-        OrderKind::TrackVolume => false,
-        OrderKind::SendVolume => false,
-        OrderKind::RouteVolume => false,
-        OrderKind::Pause => false,
-        OrderKind::Resume => true,
-    }
-}
-
+// The lines of the block are found by their links.
 fn with_orders(
     levels: &Levels,
     kinds: &mut [usize],
@@ -205,31 +192,43 @@ fn with_orders(
     shorts: &mut [u32],
     values: &mut [f32],
     times: &mut [f64],
-    orders: [OrderLine; ORDER_LINES],
+    lines: &[usize],
+    targets: &[f32],
+    line_kinds: &[usize],
+    line_counts: &[u64],
+    line_shorts: &[u32],
+    line_times: &[f64],
+    links: &OrderLinks,
     count: usize,
     block: usize,
     marks: &Marks,
 )
-    requires { ⌜ count ≤ orderLines ⌝ }
-    requires { ⌜ OrdersThere orders count ⌝ }
+    requires { ⌜ TableOk count block (tableOf (now lines) (now targets) (now «line_kinds») (now «line_counts») (now «line_shorts») (now «line_times»)) (now links) ⌝ }
     requires { ⌜ length (now kinds) ≡ kindsSize ⌝ }
     requires { ⌜ length (now counts) ≡ countsSize ⌝ }
     requires { ⌜ length (now shorts) ≡ shortsSize ⌝ }
     requires { ⌜ length (now values) ≡ valuesSize ⌝ }
     requires { ⌜ length (now times) ≡ timesSize ⌝ }
-    requires { ⌜ now marks ≡ lastLines orders count block ⌝ }
-    ensures { λ _. ⌜ numbers (now (kinds .exit)) (now (counts .exit)) (now (shorts .exit)) (now (values .exit)) (now (times .exit))
-        ≡ upto (orderStepOn (now (levels .entry)) orders count block) count (numbers (now (kinds .entry)) (now (counts .entry)) (now (shorts .entry)) (now (values .entry)) (now (times .entry))) ⌝ }
+    requires { ⌜ ((orders : List OrderLine) → LinesIn orders count (now lines) → now marks ≡ lastLines orders count block) ⌝ }
+    ensures { λ _. ⌜ ((orders : List OrderLine) → OrdersIn orders count (tableOf (now (lines .entry)) (now (targets .entry)) (now («line_kinds» .entry)) (now («line_counts» .entry)) (now («line_shorts» .entry)) (now («line_times» .entry)))
+        → numbers (now (kinds .exit)) (now (counts .exit)) (now (shorts .exit)) (now (values .exit)) (now (times .exit))
+        ≡ upto (orderStepOn (now (levels .entry)) orders count block) count (numbers (now (kinds .entry)) (now (counts .entry)) (now (shorts .entry)) (now (values .entry)) (now (times .entry)))) ⌝ }
 {
-    let mut i = 0;
+    let mut i = first_line(links, block);
     while i < count {
         let at = i;
-        let line = orders[at];
-        i += 1;
-        if line.block == block {
-            let counted = counts_by(marks, line, at);
-            order_where(levels, kinds, counts, shorts, values, times, line, counted);
-        }
+        let line = order_at(
+            lines,
+            targets,
+            line_kinds,
+            line_counts,
+            line_shorts,
+            line_times,
+            at,
+        );
+        i = next_line(links, at);
+        let counted = counts_by(marks, line, at);
+        order_where(levels, kinds, counts, shorts, values, times, line, counted);
     }
 }
 
@@ -240,31 +239,43 @@ fn with_resumes(
     shorts: &mut [u32],
     values: &mut [f32],
     times: &mut [f64],
-    orders: [OrderLine; ORDER_LINES],
+    lines: &[usize],
+    targets: &[f32],
+    line_kinds: &[usize],
+    line_counts: &[u64],
+    line_shorts: &[u32],
+    line_times: &[f64],
+    links: &OrderLinks,
     count: usize,
     block: usize,
     marks: &Marks,
 )
-    requires { ⌜ count ≤ orderLines ⌝ }
-    requires { ⌜ OrdersThere orders count ⌝ }
+    requires { ⌜ TableOk count block (tableOf (now lines) (now targets) (now «line_kinds») (now «line_counts») (now «line_shorts») (now «line_times»)) (now links) ⌝ }
     requires { ⌜ length (now kinds) ≡ kindsSize ⌝ }
     requires { ⌜ length (now counts) ≡ countsSize ⌝ }
     requires { ⌜ length (now shorts) ≡ shortsSize ⌝ }
     requires { ⌜ length (now values) ≡ valuesSize ⌝ }
     requires { ⌜ length (now times) ≡ timesSize ⌝ }
-    requires { ⌜ now marks ≡ lastLines orders count block ⌝ }
-    ensures { λ _. ⌜ numbers (now (kinds .exit)) (now (counts .exit)) (now (shorts .exit)) (now (values .exit)) (now (times .exit))
-        ≡ upto (resumeStepOn (now (levels .entry)) orders count block) count (numbers (now (kinds .entry)) (now (counts .entry)) (now (shorts .entry)) (now (values .entry)) (now (times .entry))) ⌝ }
+    requires { ⌜ ((orders : List OrderLine) → LinesIn orders count (now lines) → now marks ≡ lastLines orders count block) ⌝ }
+    ensures { λ _. ⌜ ((orders : List OrderLine) → OrdersIn orders count (tableOf (now (lines .entry)) (now (targets .entry)) (now («line_kinds» .entry)) (now («line_counts» .entry)) (now («line_shorts» .entry)) (now («line_times» .entry)))
+        → numbers (now (kinds .exit)) (now (counts .exit)) (now (shorts .exit)) (now (values .exit)) (now (times .exit))
+        ≡ upto (resumeStepOn (now (levels .entry)) orders count block) count (numbers (now (kinds .entry)) (now (counts .entry)) (now (shorts .entry)) (now (values .entry)) (now (times .entry)))) ⌝ }
 {
-    let mut i = 0;
+    let mut i = first_line(links, block);
     while i < count {
         let at = i;
-        let line = orders[at];
-        i += 1;
-        if resumes_in(line, block) {
-            let counted = counts_by(marks, line, at);
-            resume_where(levels, kinds, counts, shorts, values, times, line, counted);
-        }
+        let line = order_at(
+            lines,
+            targets,
+            line_kinds,
+            line_counts,
+            line_shorts,
+            line_times,
+            at,
+        );
+        i = next_line(links, at);
+        let counted = counts_by(marks, line, at);
+        resume_where(levels, kinds, counts, shorts, values, times, line, counted);
     }
 }
 
@@ -276,21 +287,27 @@ pub fn on_start_processing(
     shorts: &mut [u32],
     values: &mut [f32],
     times: &mut [f64],
-    orders: [OrderLine; ORDER_LINES],
+    lines: &[usize],
+    targets: &[f32],
+    line_kinds: &[usize],
+    line_counts: &[u64],
+    line_shorts: &[u32],
+    line_times: &[f64],
+    links: &OrderLinks,
     count: usize,
     block: usize,
 )
-    requires { ⌜ count ≤ orderLines ⌝ }
-    requires { ⌜ OrdersThere orders count ⌝ }
+    requires { ⌜ TableOk count block (tableOf (now lines) (now targets) (now «line_kinds») (now «line_counts») (now «line_shorts») (now «line_times»)) (now links) ⌝ }
     requires { ⌜ length (now kinds) ≡ kindsSize ⌝ }
     requires { ⌜ length (now counts) ≡ countsSize ⌝ }
     requires { ⌜ length (now shorts) ≡ shortsSize ⌝ }
     requires { ⌜ length (now values) ≡ valuesSize ⌝ }
     requires { ⌜ length (now times) ≡ timesSize ⌝ }
-    ensures { λ _. ⌜ numbers (now (kinds .exit)) (now (counts .exit)) (now (shorts .exit)) (now (values .exit)) (now (times .exit))
-        ≡ stateOrdered (now (levels .entry)) orders count block (numbers (now (kinds .entry)) (now (counts .entry)) (now (shorts .entry)) (now (values .entry)) (now (times .entry))) ⌝ }
+    ensures { λ _. ⌜ ((orders : List OrderLine) → OrdersIn orders count (tableOf (now (lines .entry)) (now (targets .entry)) (now («line_kinds» .entry)) (now («line_counts» .entry)) (now («line_shorts» .entry)) (now («line_times» .entry)))
+        → numbers (now (kinds .exit)) (now (counts .exit)) (now (shorts .exit)) (now (values .exit)) (now (times .exit))
+        ≡ stateOrdered (now (levels .entry)) orders count block (numbers (now (kinds .entry)) (now (counts .entry)) (now (shorts .entry)) (now (values .entry)) (now (times .entry)))) ⌝ }
 {
-    let marks = last_lines(orders, count, block);
+    let marks = last_lines(lines, links, count, block);
     with_orders(
         levels,
         kinds,
@@ -298,7 +315,13 @@ pub fn on_start_processing(
         shorts,
         values,
         times,
-        orders,
+        lines,
+        targets,
+        line_kinds,
+        line_counts,
+        line_shorts,
+        line_times,
+        links,
         count,
         block,
         &marks,
@@ -310,7 +333,13 @@ pub fn on_start_processing(
         shorts,
         values,
         times,
-        orders,
+        lines,
+        targets,
+        line_kinds,
+        line_counts,
+        line_shorts,
+        line_times,
+        links,
         count,
         block,
         &marks,

@@ -1,19 +1,16 @@
 // Which of a block's orders count, and the tweens that they name: order lines stand for kira's command
 // readers.
 ghost use mathlib.Core.Path.{_≡_};
-ghost use Prim.Native.Nat.{ℕ, _≤_, _<_};
-ghost use lib.ListN.{getD};
+ghost use Prim.Native.Nat.{_≤_, _<_};
 ghost use Rattle.limits.specs.Limits.{orderLines};
-ghost use Rattle.accepted.specs.Lines.{absentOrderLine};
-ghost use Rattle.order_lines.specs.Orders.{kindNumber, keys, key, lastLines, countsBy, tweenOf, resumeTweenOf};
-use limits::ORDER_LINES;
+ghost use Rattle.order_lines.specs.Orders.{kindNumber, keys, key, countsBy, tweenOf, resumeTweenOf};
 use limits::ROUTE_LINES;
 use scene::OrderKind;
 use scene::OrderLine;
 use tween::StartTime;
 use tween::Tween;
 
-fn kind_number(kind: OrderKind) -> u32
+pub fn kind_number(kind: OrderKind) -> u32
     ensures { λ r. ⌜ r ≡ kindNumber kind ⌝ }
 {
     match kind {
@@ -34,31 +31,11 @@ pub const MARKS: usize = 6 * KEYS;
 // Of each kind and index the last line in a block. Lines are counted from 1, and 0 is none.
 pub type Marks = [usize; MARKS];
 
-fn key(kind: OrderKind, index: usize) -> usize
+pub fn key(kind: OrderKind, index: usize) -> usize
     requires { ⌜ index < keys ⌝ }
     ensures { λ r. ⌜ r ≡ key kind index ⌝ }
 {
     kind_number(kind) as usize * KEYS + index
-}
-
-// Made once for a block, so that no line is compared with all others.
-pub fn last_lines(orders: [OrderLine; ORDER_LINES], count: usize, block: usize) -> Marks
-    requires { ⌜ count ≤ orderLines ⌝ }
-    requires { ⌜ ((j : ℕ) → j < count → getD orders j absentOrderLine .index < keys) ⌝ }
-    ensures { λ r. ⌜ r ≡ lastLines orders count block ⌝ }
-{
-    let mut marks = [0usize; MARKS];
-    let mut i = 0;
-    while i < count {
-        let order = orders[i];
-        i += 1;
-        if order.block == block {
-            let kind = order.kind;
-            let at = key(kind, order.index);
-            marks[at] = i;
-        }
-    }
-    marks
 }
 
 // Only a resume is compared with lines of another kind.

@@ -21,3 +21,5 @@ pub use tweens::PARAMETERS;
 pub use tweens::SHORTS;
 pub use tweens::TIMES;
 pub use tweens::VALUES;
+pub use tweens::put_tween;
+pub use tweens::tween_at;

@@ -1,25 +1,24 @@
--- A show's blocks: which of them have orders, and the arrays that the first begins with.
+-- A show's blocks: which of them stand still, and the arrays that the first begins with.
 use mathlib.Core.Path.{_≡_}
-use mathlib.Core.Bool.{Bool, true, false, not, cond, _&&_}
+use mathlib.Core.Bool.{Bool, true, false, not, cond}
 use mathlib.Core.List.{List, []}
 use Prim.Native.Nat.{ℕ, _≤_}
-use lib.Dec.{eqb, ltb}
+use lib.Dec.{eqb}
 use lib.ListN.{getD}
 use lib.Ieee.{Float}
 use Rattle.recordings.specs.Recordings.{Recordings}
 use Rattle.limits.specs.Limits.{clockLines, sendLines}
 use Rattle.rounding.specs.Duration.{InAnHour, nanosFromSecs}
-use Rattle.laws.specs.Loop.{upto}
 use Rattle.clock.specs.declared.when_to_start.Clocks.{Clocks}
-use Rattle.scene.specs.declared.scene.OrderLine.{OrderLine}
 use Rattle.scene.specs.declared.scene.Head.{Head}
 use Rattle.scene.specs.declared.scene.Scene.{Scene}
-use Rattle.accepted.specs.Lines.{absentOrderLine}
 use Rattle.chunk.specs.Flat.{sendCountPlace, placesOf, levelsOf, amplitudesOf, chunkFrom}
 use Rattle.track.specs.Owners.{LinksOf}
 use Rattle.mixer.specs.Mixer.{mixerNew}
 use Rattle.mixer_chunk.specs.ChunkOf.{chunkOf}
 use Rattle.parameter_store.specs.Store.{Numbers, Sized}
+use Rattle.order_table.specs.Table.{Table, TableSized, blockAt, OrdersIn}
+use Rattle.order_links.specs.Links.{blockLinks}
 use Rattle.moving_mixer.specs.State.{Arrays, ArraysSized}
 use Rattle.moving_mixer.specs.Update.{mixerOn, TracksThere, RoutesThere, RoutesHeard}
 use Rattle.steady_mixer.specs.Steady.{ahead}
@@ -27,14 +26,6 @@ use Rattle.steady_mixer.specs.Arrays.{arraysSteady, LevelsIn}
 use Rattle.renderer.specs.Renderer.{chunkCount}
 use Rattle.block_render.specs.Block.{blockHead, chunkArrays, blockHeard, BlockAsks, endTicks, ClocksAsk}
 use Rattle.mixer_layout.specs.Put.{mixerPut}
-
--- ---- the next block with orders, or the show's end
-
-unfoldable pub nearerBlock : ℕ → ℕ → ℕ → ℕ
-nearerBlock first block end = cond (ltb first block && ltb block end) block end
-
-unfoldable pub nextOrders : List OrderLine → ℕ → ℕ → ℕ → ℕ
-nextOrders orders count blocks first = upto (λ i end. nearerBlock first (getD orders i absentOrderLine .block) end) count blocks
 
 -- ---- whether a block stands still
 
@@ -94,3 +85,9 @@ pub record Begins (s : Scene) (c : Clocks) (a : Arrays) (l l' l'' : List ℕ) : 
   pub sized : Sized room
   pub state : a .state ≡ mixerPut (mixerNew s) (a .places) room
   pub links : LinksOf (chunkFrom (a .places) (a .levels) (a .amplitudes)) l l' l''
+
+-- and the table of orders with its links those of the scene
+pub record OrdersReady (s : Scene) (t : Table) (links : List ℕ) : Type 0 where
+  pub sized : TableSized t
+  pub held : OrdersIn (s .orders) (s .«order_count») t
+  pub linked : links ≡ blockLinks (blockAt (t .lines)) (s .«order_count»)

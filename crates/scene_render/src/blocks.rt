@@ -6,7 +6,7 @@ ghost use Prim.Native.Nat.{ℕ, _-_, _*_, _≤_};
 ghost use lib.Ieee.{Float};
 ghost use lib.ListN.{length, getD};
 ghost use Rattle.recordings.specs.Recordings.{recordings};
-ghost use Rattle.limits.specs.Limits.{clockLines, sendLines, orderLines, chunkFramesMost, blockFramesMost};
+ghost use Rattle.limits.specs.Limits.{clockLines, sendLines, chunkFramesMost, blockFramesMost};
 ghost use Rattle.rounding.specs.Duration.{InAnHour};
 ghost use Rattle.gain_table.specs.GainTable.{IsGainTable};
 ghost use Rattle.accepted.specs.SceneOk.{SceneOk, SamplesOk};
@@ -14,12 +14,13 @@ ghost use Rattle.chunk.specs.Chunk.{partsOf};
 ghost use Rattle.chunk.specs.Flat.{sendCountPlace};
 ghost use Rattle.track.specs.Send.{sendPlaces};
 ghost use Rattle.renderer.specs.Renderer.{chunkCount, chunkFrames, rendered};
+ghost use Rattle.order_table.specs.Table.{tableOf};
 ghost use Rattle.parameter_store.specs.Store.{numbers, kindsSize, countsSize, valuesSize};
 ghost use Rattle.moving_mixer.specs.State.{arrays};
 ghost use Rattle.moving_mixer.specs.Update.{TracksThere, RoutesThere};
 ghost use Rattle.steady_mixer.specs.Arrays.{LevelsIn};
 ghost use Rattle.block_render.specs.Block.{blockHead, chunkClocks, ClocksAsk};
-ghost use Rattle.scene_render.specs.Show.{nearerBlock, nextOrders, blockWaits, blockStill, blockAfter, blockOut, BlockReady, Begins};
+ghost use Rattle.scene_render.specs.Show.{blockWaits, blockStill, blockAfter, blockOut, BlockReady, Begins, OrdersReady};
 use chunk::Amplitudes;
 use chunk::LEVELS;
 use chunk::Levels;
@@ -37,13 +38,17 @@ use links::Links;
 use links::links_back;
 use links::links_of;
 use mixer::Mixer;
+use order_links::OrderLinks;
+use order_links::first_line;
+use order_links::links_by_block;
+use order_table::LINES;
+use order_table::put_orders;
 use parameter_store::COUNTS;
 use parameter_store::KINDS;
 use parameter_store::SHORTS;
 use parameter_store::TIMES;
 use parameter_store::VALUES;
 use scene::Head;
-use scene::OrderLine;
 use scene::Scene;
 use steady_mixer::is_steady;
 use track::SEND_PLACES;
@@ -54,32 +59,6 @@ fn last_frames(head: Head) -> usize
     ensures { λ r. ⌜ r ≡ chunkFrames head (chunkCount head - 1) ⌝ }
 {
     renderer::chunk_frames(head, renderer::chunk_count(head) - 1)
-}
-
-fn nearer_block(first: usize, block: usize, end: usize) -> usize
-    ensures { λ r. ⌜ r ≡ nearerBlock first block end ⌝ }
-{
-    if first < block {
-        if block < end {
-            return block;
-        }
-    }
-    end
-}
-
-// The next block with orders, or the show's end.
-fn next_orders(orders: [OrderLine; ORDER_LINES], count: usize, blocks: usize, first: usize) -> usize
-    requires { ⌜ count ≤ orderLines ⌝ }
-    ensures { λ r. ⌜ r ≡ nextOrders orders count blocks first ⌝ }
-{
-    let mut end = blocks;
-    let mut i = 0;
-    while i < count {
-        let order = orders[i];
-        end = nearer_block(first, order.block, end);
-        i += 1;
-    }
-    end
 }
 
 // Whether something waits in a block for longer than it lasts, and nothing moves. `step` is its seconds.
@@ -263,6 +242,13 @@ fn render_blocks<'a>(
     times: &mut [f64],
     clocks: Clocks,
     scene: Scene,
+    lines: &[usize],
+    targets: &[f32],
+    line_kinds: &[usize],
+    line_counts: &[u64],
+    line_shorts: &[u32],
+    line_times: &[f64],
+    links: &OrderLinks,
     sub_tracks: &Links,
     sounds: &Links,
     routes: &Links,
@@ -286,10 +272,10 @@ fn render_blocks<'a>(
     requires { ⌜ now wide ≡ partsOf chunkFramesMost ⌝ }
     requires { ⌜ now rest ≡ partsOf (chunkFrames (blockHead true (scene .head)) (chunkCount (blockHead true (scene .head)) - 1)) ⌝ }
     requires { ⌜ length (now output) ≡ scene .head .block * scene .head .blocks * scene .head .channels ⌝ }
+    requires { ⌜ OrdersReady scene (tableOf (now lines) (now targets) (now «line_kinds») (now «line_counts») (now «line_shorts») (now «line_times»)) (now links) ⌝ }
     ensures { λ _. ⌜ now (output .exit) ≡ rendered scene (recordings (now (samples .entry)) (now (visitor .entry))) ⌝ }
 {
     let head = scene.head;
-    let orders = scene.orders;
     let count = scene.order_count;
     let blocks = head.blocks;
     let width = head.block * head.channels;
@@ -298,10 +284,9 @@ fn render_blocks<'a>(
     let mut sends = [0.0f32; SEND_PLACES];
     let mut mix = [0.0f32; 2 * CHUNK_FRAMES];
     let mut moved = clocks;
-    let mut next = 0;
     let mut b = 0;
     while b < blocks {
-        let ordered = b == next;
+        let ordered = first_line(links, b) < count;
         if ordered {
             mixer_orders::on_start_processing(
                 levels,
@@ -310,11 +295,16 @@ fn render_blocks<'a>(
                 shorts,
                 values,
                 times,
-                orders,
+                lines,
+                targets,
+                line_kinds,
+                line_counts,
+                line_shorts,
+                line_times,
+                links,
                 count,
                 b,
             );
-            next = next_orders(orders, count, blocks, b);
         }
         let from = b * width;
         let to = from + width;
@@ -350,7 +340,7 @@ fn render_blocks<'a>(
     }
 }
 
-// The arrays, the links and the parts of a chunk are made once.
+// The arrays, the orders' too, the links and the parts of a chunk are made once.
 pub fn render_scene<'a>(scene: Scene, samples: &'a [f32], visitor: &'a [f32], output: &mut [f32])
     requires { ⌜ SceneOk scene ⌝ }
     requires { ⌜ SamplesOk scene (recordings (now samples) (now visitor)) ⌝ }
@@ -387,6 +377,25 @@ pub fn render_scene<'a>(scene: Scene, samples: &'a [f32], visitor: &'a [f32], ou
         &mut times,
     );
     let clocks = mixer.clocks;
+    let orders = scene.orders;
+    let count = scene.order_count;
+    let mut lines = [0usize; LINES];
+    let mut targets = [0.0f32; ORDER_LINES];
+    let mut line_kinds = [0usize; KINDS];
+    let mut line_counts = [0u64; COUNTS];
+    let mut line_shorts = [0u32; SHORTS];
+    let mut line_times = [0.0f64; TIMES];
+    put_orders(
+        &mut lines,
+        &mut targets,
+        &mut line_kinds,
+        &mut line_counts,
+        &mut line_shorts,
+        &mut line_times,
+        orders,
+        count,
+    );
+    let links = links_by_block(&lines, count);
     render_blocks(
         &mut places,
         &mut levels,
@@ -398,6 +407,13 @@ pub fn render_scene<'a>(scene: Scene, samples: &'a [f32], visitor: &'a [f32], ou
         &mut times,
         clocks,
         scene,
+        &lines,
+        &targets,
+        &line_kinds,
+        &line_counts,
+        &line_shorts,
+        &line_times,
+        &links,
         &sub_tracks,
         &sounds,
         &routes,

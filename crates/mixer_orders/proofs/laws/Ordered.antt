@@ -28,7 +28,7 @@ use Rattle.moving_mixer.proofs.laws.Over.{mixerOver}
 use Rattle.moving_mixer.specs.State.{Arrays, arrays}
 use Rattle.moving_mixer.specs.Update.{withManager}
 use Rattle.mixer_orders.proofs.laws.OrdersOn.{ordersOn}
-use Rattle.mixer_orders.specs.Orders.{parameterSetOn, trackPauseOn, trackResumeOn, orderOn, resumeOn, orderStepOn, resumeStepOn, stateOrdered, IndexThere, OrdersThere}
+use Rattle.mixer_orders.specs.Orders.{parameterSetOn, trackPauseOn, trackResumeOn, orderOn, resumeOn, orderStepOn, resumeStepOn, stateOrdered, IndexThere, OrderThere}
 use Rattle.mixer_orders.proofs.laws.Rows.{Room}
 use Rattle.mixer_orders.proofs.laws.Order.{set-main, set-track, set-send, set-route, pause-track, resume-track}
 
@@ -43,8 +43,8 @@ module _ {s : Scene} (ok : SceneOk s) where
   index-there Pause index h = (h .0, le-trans (h .1) (ok .trackCount))
   index-there Resume index h = (h .0, le-trans (h .1) (ok .trackCount))
 
-  pub orders-there : OrdersThere (s .orders) (s .«order_count»)
-  orders-there i b = record { index = index-there (orderLine s i .kind) (orderLine s i .index) (ok .orders i b .index); millis = ok .orders i b .millis }
+  pub order-there : (i : ℕ) → i < s .«order_count» → OrderThere (orderLine s i)
+  order-there i b = record { index = index-there (orderLine s i .kind) (orderLine s i .index) (ok .orders i b .index); millis = ok .orders i b .millis }
 
 -- ---- arrays keep their lengths
 

@@ -1,12 +1,12 @@
 -- What the code's steps come to: the definitions, from what each call promises. Assumes nothing.
 use mathlib.Core.Path.{_≡_, refl, ap, sym, subst, _∙_}
-use mathlib.Core.Bool.{Bool, true, false, cond, true≢false, _&&_}
+use mathlib.Core.Bool.{Bool, true, false, cond, true≢false}
 use mathlib.Core.List.{List}
 use Prim.Native.Nat.{ℕ, _-_}
-use borrow.Author.Tests.{eq-eqb, ne-eqb}
+use borrow.Author.Tests.{ne-eqb}
 use lib.Dec.{eqb}
 use lib.Ieee.{Float}
-use Rattle.laws.proofs.laws.Choice.{cond-true, cond-false, first-no, first-yes}
+use Rattle.laws.proofs.laws.Choice.{cond-true, cond-false, first-no}
 use Rattle.decibels.specs.declared.decibels.Decibels.{Decibels}
 use Rattle.tween.specs.declared.start_time.StartTime.{StartTime}
 use Rattle.tween.specs.declared.tween.Tween.{Tween}
@@ -23,7 +23,7 @@ use Rattle.chunk.specs.Flat.{mainFrom, levelFrom, sendFrom}
 use Rattle.parameter_store.specs.Store.{Numbers, parameterFrom, routeLevel, withParameter}
 use Rattle.moving_mixer.specs.State.{routeNumber, sendNumber, mainNumber, volumePlace, fadePlace, playbackAt}
 use Rattle.moving_mixer.specs.Update.{withManager}
-use Rattle.mixer_orders.specs.Orders.{parameterSetOn, trackPauseOn, trackResumeOn, orderOn, resumeOn, lineOf, orderStepOn, resumeStepOn, isResume, resumesIn, IndexThere}
+use Rattle.mixer_orders.specs.Orders.{parameterSetOn, trackPauseOn, trackResumeOn, orderOn, resumeOn, lineOf, orderStepOn, resumeStepOn, IndexThere}
 
 -- ---- a parameter: a new one of its value now, once set, puts the same numbers
 
@@ -90,8 +90,17 @@ pub no-order : (levels : List Float) (o : OrderLine) (n : Numbers) → o .kind �
 unfolding orderOn
 no-order levels o n e = by-order levels o n e refl
 
+-- which kinds the second pass reads
+abbrev pub isResume : OrderKind → Bool
+isResume MainVolume = false
+isResume TrackVolume = false
+isResume SendVolume = false
+isResume RouteVolume = false
+isResume Pause = false
+isResume Resume = true
+
 not-resume : (levels : List Float) (o : OrderLine) (n : Numbers) (k : OrderKind) → isResume k ≡ false → resumeOn levels k o n ≡ n
-unfolding isResume resumeOn
+unfolding resumeOn
 not-resume levels o n MainVolume e = refl
 not-resume levels o n TrackVolume e = refl
 not-resume levels o n SendVolume e = refl
@@ -107,14 +116,6 @@ index-by o k e h = subst (λ (x : OrderKind). IndexThere x (o .index)) e h
 
 -- ---- a line
 
-pub resumes-false : (o : OrderLine) (block : ℕ) → (o .block ≡ block → ⊥) → false ≡ resumesIn o block
-unfolding resumesIn
-resumes-false o block h = first-no (eqb (o .block) block) _ (ne-eqb (o .block) block h)
-
-pub resumes-by : (o : OrderLine) (block : ℕ) {k : OrderKind} → o .block ≡ block → o .kind ≡ k → isResume k ≡ resumesIn o block
-unfolding resumesIn
-resumes-by o block {k} e f = ap isResume (sym f) ∙ first-yes (eqb (o .block) block) _ (eq-eqb (o .block) block e)
-
 module _ (levels : List Float) (orders : List OrderLine) (count block i : ℕ) (n : Numbers) where
   skipped : eqb (lineOf orders i .block) block ≡ false → counts orders count block i ≡ false
   unfolding counts
@@ -128,18 +129,9 @@ module _ (levels : List Float) (orders : List OrderLine) (count block i : ℕ) (
   unfolding orderStepOn
   order-done e h = h ∙ ap (λ (x : Bool). cond x (orderOn levels (lineOf orders i .kind) (lineOf orders i) n) n) e
 
-  either : (b : Bool) {x : Numbers} → x ≡ n → cond b x n ≡ n
-  either true e = e
-  either false e = refl
-
-  resume-skipped-by : (b : Bool) → eqb (lineOf orders i .block) block ≡ b → (b && isResume (lineOf orders i .kind)) ≡ false → resumeStepOn levels orders count block i n ≡ n
+  pub resume-skipped : (lineOf orders i .block ≡ block → ⊥) → n ≡ resumeStepOn levels orders count block i n
   unfolding resumeStepOn
-  resume-skipped-by true e h = either (counts orders count block i) (not-resume levels (lineOf orders i) n (lineOf orders i .kind) h)
-  resume-skipped-by false e h = cond-false _ _ _ (skipped e)
-
-  pub resume-skipped : {b : Bool} → b ≡ resumesIn (lineOf orders i) block → b ≡ false → n ≡ resumeStepOn levels orders count block i n
-  unfolding resumesIn
-  resume-skipped e h = sym (resume-skipped-by (eqb (lineOf orders i .block) block) refl (sym e ∙ h))
+  resume-skipped h = sym (cond-false _ _ _ (skipped (ne-eqb (lineOf orders i .block) block h)))
 
   pub resume-done : {b : Bool} {m : Numbers} → b ≡ counts orders count block i → m ≡ cond b (resumeOn levels (lineOf orders i .kind) (lineOf orders i) n) n → m ≡ resumeStepOn levels orders count block i n
   unfolding resumeStepOn

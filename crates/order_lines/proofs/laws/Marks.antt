@@ -10,7 +10,7 @@ use lib.ListN.{length, getD, set, replicate, length-set, length-replicate, getD-
 use lib.Seq.{getD-set-same, getD-set-other}
 use Rattle.laws.specs.Loop.{upto}
 use Rattle.laws.proofs.laws.Choice.{and-same, cond-true, cond-false, first-yes}
-use Rattle.laws.proofs.laws.Loop.{upto-zero, upto-suc, upto-turn, upto-holds}
+use Rattle.laws.proofs.laws.Loop.{upto-zero, upto-suc, upto-holds}
 use Rattle.scene.specs.declared.scene.OrderLine.{OrderLine}
 use Rattle.scene.specs.declared.scene.OrderKind.{OrderKind}
 use Rattle.scene.specs.declared.scene.OrderKind.the-variants.{MainVolume, TrackVolume, SendVolume, RouteVolume, Pause, Resume}
@@ -106,13 +106,13 @@ module _ (orders : List OrderLine) (block : ℕ) where
   mark-length j marks = length-by (eqb (line j .block) block) marks (key (line j .kind) (line j .index)) (j + 1)
 
   -- a line of the block is marked, and another leaves the marks
-  line-marked : (j : ℕ) (marks : List ℕ) → line j .block ≡ block → set marks (key (line j .kind) (line j .index)) (j + 1) ≡ markLine orders block j marks
+  pub marks-on : (j : ℕ) {at : ℕ} (marks : List ℕ) → line j .block ≡ block → at ≡ key (line j .kind) (line j .index) → set marks at (j + 1) ≡ markLine orders block j marks
   unfolding markLine
-  line-marked j marks e = sym (cond-true (eqb (line j .block) block) _ _ (eq-eqb (line j .block) block e))
+  marks-on j marks e f = ap (λ (z : ℕ). set marks z (j + 1)) f ∙ sym (cond-true (eqb (line j .block) block) _ _ (eq-eqb (line j .block) block e))
 
-  line-left : (j : ℕ) (marks : List ℕ) → (line j .block ≡ block → ⊥) → marks ≡ markLine orders block j marks
+  pub marks-off : (j : ℕ) (marks : List ℕ) → (line j .block ≡ block → ⊥) → markLine orders block j marks ≡ marks
   unfolding markLine
-  line-left j marks h = sym (cond-false (eqb (line j .block) block) _ _ (ne-eqb (line j .block) block h))
+  marks-off j marks h = cond-false (eqb (line j .block) block) _ _ (ne-eqb (line j .block) block h)
 
   module _ (count i : ℕ) (fits : (j : ℕ) → j < count → line j .index < keys) (b : i < count) (here : line i .block ≡ block) where
     kind-for : (k : OrderKind) (j : ℕ) → j < count → isKindFor k (line i) (line j) ≡ (eqb (line j .block) block && eqb (key (line j .kind) (line j .index)) (key k (line i .index)))
@@ -149,21 +149,9 @@ module _ (orders : List OrderLine) (block : ℕ) where
     unfolding lastIsAfter lastLines Agree
     last-marked k = upto-holds (Agree k) (markLine orders block) count (replicate marksSize 0) (none k) (agree-step k) .1
 
-  -- ---- turns of the loop that marks
-
-  pub marks-none : replicate marksSize 0 ≡ lastLines orders 0 block
+  pub marks-made : (count : ℕ) → upto (markLine orders block) count (replicate marksSize 0) ≡ lastLines orders count block
   unfolding lastLines
-  marks-none = sym (upto-zero (markLine orders block) (replicate marksSize 0))
-
-  marks-turn : (i : ℕ) {now : List ℕ} → now ≡ lastLines orders i block → markLine orders block i now ≡ lastLines orders (i + 1) block
-  unfolding lastLines
-  marks-turn i e = upto-turn (markLine orders block) i (replicate marksSize 0) e
-
-  pub marks-on : (i : ℕ) {at : ℕ} {now : List ℕ} → line i .block ≡ block → at ≡ key (line i .kind) (line i .index) → now ≡ lastLines orders i block → set now at (i + 1) ≡ lastLines orders (i + 1) block
-  marks-on i {now = now} here e f = ap (λ (z : ℕ). set now z (i + 1)) e ∙ line-marked i now here ∙ marks-turn i f
-
-  pub marks-off : (i : ℕ) {now : List ℕ} → (line i .block ≡ block → ⊥) → now ≡ lastLines orders i block → now ≡ lastLines orders (i + 1) block
-  marks-off i {now} h f = line-left i now h ∙ marks-turn i f
+  marks-made count = refl
 
 -- ---- which lines count
 

@@ -12,7 +12,7 @@ use lib.Seq.{set-getD}
 use borrow.Author.Tests.{eqb-true, eqb-false}
 use lib.Ieee.{Float}
 use Rattle.recordings.specs.Recordings.{Recordings}
-use Rattle.limits.specs.Limits.{clockLines, trackPlaces, sendLines, routeLines, orderLines}
+use Rattle.limits.specs.Limits.{clockLines, trackPlaces, sendLines, routeLines}
 use Rattle.rounding.specs.Duration.{InAnHour, nanosFromSecs}
 use Rattle.decibels.specs.declared.decibels.Decibels.{Decibels}
 use Rattle.laws.proofs.laws.Unsigned.{unsigned}
@@ -41,13 +41,15 @@ use Rattle.mixer.proofs.laws.MixerOk.{MixerOk}
 use Rattle.mixer.specs.Orders.{mixerOrdered}
 use Rattle.renderer.specs.Renderer.{chunkCount, chunksDone, mixerAt, blockSamples}
 use Rattle.renderer.proofs.laws.Renderer.{chunkSeconds, chunks-few, chunks-ok, seconds-in-an-hour}
+use Rattle.order_table.specs.Table.{Table, OrdersIn}
+use Rattle.order_links.specs.Links.{firstLine}
 use Rattle.parameter_store.specs.Store.{Numbers, numbers, kindsSize, countsSize, shortsSize, valuesSize, timesSize}
 use Rattle.moving_mixer.specs.State.{Arrays, arrays}
 use Rattle.moving_mixer.specs.Update.{mixerOn, TracksThere, RoutesThere, RoutesHeard}
 use Rattle.moving_mixer.proofs.laws.Mixer.{Agrees}
 use Rattle.mixer_orders.proofs.laws.OrdersOn.{ordersOn}
-use Rattle.mixer_orders.specs.Orders.{stateOrdered, OrdersThere}
-use Rattle.mixer_orders.proofs.laws.Ordered.{Full, orders-there}
+use Rattle.mixer_orders.specs.Orders.{stateOrdered, TableOk}
+use Rattle.mixer_orders.proofs.laws.Ordered.{Full}
 use Rattle.steady_mixer.specs.Steady.{Ahead, ahead, parameterSteady, stateSteady, reachedSteady, steadyWhere, routeSteady}
 use Rattle.steady_mixer.proofs.laws.MixerSteady.{steadyTrack, steadyRoute, steadySend, mixerSteady}
 use Rattle.steady_mixer.proofs.laws.Settled.{Settled, SettledTrack, SettledMixer}
@@ -61,8 +63,8 @@ use Rattle.block_render.proofs.laws.Chunk.{StandsFor, agrees-of, routes-heard-o
 use Rattle.block_render.proofs.laws.Block.{block-clocks, ticked, moving-stands, moving-heard, moving-asks}
 use Rattle.block_render.proofs.laws.Ends.{clocks-first, ends-after}
 use Rattle.block_render.proofs.laws.Joined.{wait-stands, rest-stands, joined-stands, joined-heard, joined-asks, clocks-ask}
-use Rattle.scene_render.specs.Show.{nextOrders, blockRests, blockWaits, blockStill, arraysWaited, blockAfter, blockOut, BlockReady, Begins}
-use Rattle.scene_render.proofs.laws.Orders.{NextFrom, next-first, next-read, next-on, none-read}
+use Rattle.scene_render.specs.Show.{blockRests, blockWaits, blockStill, arraysWaited, blockAfter, blockOut, BlockReady, Begins, OrdersReady}
+use Rattle.scene_render.proofs.laws.Orders.{table-ok, none-read}
 use Rattle.scene_render.proofs.laws.Start.{begins-stand}
 use Rattle.scene_render.proofs.laws.Ordered.{base-full, ordered-clocks, stands-ordered}
 use Rattle.scene_render.proofs.laws.Blocks.{showPiece, show-turn, mixer-start, mixer-next, count-positive}
@@ -72,19 +74,17 @@ abbrev ordered : Scene → ℕ → Mixer
 ordered s b = mixerOrdered s b (mixerAt s b)
 
 -- before block b
-pub record Before (s : Scene) (b next : ℕ) (moved : Clocks) (a : Arrays) (l l' l'' : List ℕ) : Type 0 where
+pub record Before (s : Scene) (b : ℕ) (moved : Clocks) (a : Arrays) (l l' l'' : List ℕ) : Type 0 where
   pub inside : b ≤ s .head .blocks
   pub stands : StandsFor s (mixerNew s) (mixerAt s b) (b * chunkCount (s .head)) a l l' l''
   pub clocks : moved ≡ mixerAt s b .clocks
-  pub orders : NextFrom s b next
   pub settled : SettledMixer s (mixerAt s b)
 
 -- once its orders are read, if it has some
-pub record Read (s : Scene) (b next : ℕ) (ordered : Bool) (moved : Clocks) (a : Arrays) (l l' l'' : List ℕ) : Type 0 where
+pub record Read (s : Scene) (b : ℕ) (ordered : Bool) (moved : Clocks) (a : Arrays) (l l' l'' : List ℕ) : Type 0 where
   pub inside : b < s .head .blocks
   pub stands : StandsFor s (mixerNew s) (mixerOrdered s b (mixerAt s b)) (b * chunkCount (s .head)) a l l' l''
   pub clocks : moved ≡ mixerOrdered s b (mixerAt s b) .clocks
-  pub orders : NextFrom s (b + 1) next
   pub settled : ordered ≡ false → SettledMixer s (mixerOrdered s b (mixerAt s b))
 
 -- ---- motions that have settled
@@ -157,7 +157,7 @@ module _ (n n' : ℕ) (e e' : List ℕ) where
 
 -- ---- the first block
 
-show-begins : {s : Scene} {samples : Recordings} {clocks : Clocks} {a : Arrays} {l l' l'' : List ℕ} → SceneOk s → SamplesOk s samples → Begins s clocks a l l' l'' → Before s 0 0 clocks a l l' l''
+show-begins : {s : Scene} {samples : Recordings} {clocks : Clocks} {a : Arrays} {l l' l'' : List ℕ} → SceneOk s → SamplesOk s samples → Begins s clocks a l l' l'' → Before s 0 clocks a l l' l''
 show-begins {s} {a = a} {l = l} {l' = l'} {l'' = l''} ok there h =
     record {
       inside = omega arith;
@@ -165,48 +165,44 @@ show-begins {s} {a = a} {l = l} {l' = l'} {l'' = l''} ok there h =
           subst (λ (m : Mixer). StandsFor s (mixerNew s) m (0 * chunkCount (s .head)) a l l' l'') (mixer-start s)
           (subst (λ (n : ℕ). StandsFor s (mixerNew s) (mixerNew s) n a l l' l'') (sym (zero-mul (chunkCount (s .head)))) (begins-stand ok there h));
       clocks = h .clocks ∙ ap (λ (m : Mixer). m .clocks) (mixer-start s);
-      orders = next-first s;
       settled = subst (SettledMixer s) (mixer-start s) (new-settled s ok);
     }
 
 -- ---- orders
 
-module _ {s : Scene} {b next : ℕ} {moved : Clocks} {a : Arrays} {l l' l'' : List ℕ} (ok : SceneOk s) (h : Before s b next moved a l l' l'') (more : b < s .head .blocks) where
+module _ {s : Scene} {b : ℕ} {moved : Clocks} {a : Arrays} {l l' l'' : List ℕ} (ok : SceneOk s) (h : Before s b moved a l l' l'') (more : b < s .head .blocks) where
   read-is : {n : Numbers} → n ≡ stateOrdered (a .levels) (s .orders) (s .«order_count») b (a .state) → ordersOn (s .orders) (s .«order_count») b a ≡ arrays (a .places) (a .levels) (a .amplitudes) n
   unfolding ordersOn
   read-is e = ap (arrays (a .places) (a .levels) (a .amplitudes)) (sym e)
 
-  orders-read : {n : Numbers} {next' : ℕ} → n ≡ stateOrdered (a .levels) (s .orders) (s .«order_count») b (a .state) → next' ≡ nextOrders (s .orders) (s .«order_count») (s .head .blocks) b → Read s b next' true moved (arrays (a .places) (a .levels) (a .amplitudes) n) l l' l''
-  orders-read e f =
+  orders-read : {n : Numbers} → n ≡ stateOrdered (a .levels) (s .orders) (s .«order_count») b (a .state) → Read s b true moved (arrays (a .places) (a .levels) (a .amplitudes) n) l l' l''
+  orders-read e =
       record {
         inside = more;
         stands = subst (λ (x : Arrays). StandsFor s (mixerNew s) (ordered s b) (b * chunkCount (s .head)) x l l' l'') (read-is e) (stands-ordered ok (h .stands) b);
         clocks = h .clocks ∙ sym (ordered-clocks ok (h .stands) b);
-        orders = next-read s b more f;
         settled = λ q. absurd (true≢false q);
       }
 
-  none-there : (b ≡ next → ⊥) → Read s b next false moved a l l' l''
-  none-there other =
-      let same = sym (none-read (h .orders) other (mixerAt s b)) in
+  none-there : mixerOrdered s b (mixerAt s b) ≡ mixerAt s b → Read s b false moved a l l' l''
+  none-there none =
+      let same = sym none in
       record {
         inside = more;
         stands = subst (λ (m : Mixer). StandsFor s (mixerNew s) m (b * chunkCount (s .head)) a l l' l'') same (h .stands);
         clocks = h .clocks ∙ ap (λ (m : Mixer). m .clocks) same;
-        orders = next-on (h .orders) other;
         settled = λ q. subst (SettledMixer s) same (h .settled);
       }
 
 pub numbers-by : {kinds kinds' counts counts' shorts shorts' : List ℕ} {values values' times times' : List Float} → kinds ≡ kinds' → counts ≡ counts' → shorts ≡ shorts' → values ≡ values' → times ≡ times' → numbers kinds counts shorts values times ≡ numbers kinds' counts' shorts' values' times'
 numbers-by a b c d e = rw (a, b, c, d, e) refl
 
-pub read-same : {s : Scene} {b next next' : ℕ} {ordered : Bool} {moved : Clocks} {a : Arrays} {n : Numbers} {l l' l'' : List ℕ} → Read s b next ordered moved a l l' l'' → n ≡ a .state → next' ≡ next → Read s b next' ordered moved (arrays (a .places) (a .levels) (a .amplitudes) n) l l' l''
-read-same {s} {b} {next} {next'} {ordered} {moved} {a} {n} {l} {l'} {l''} h e f =
-    subst (λ (i : ℕ). Read s b i ordered moved (arrays (a .places) (a .levels) (a .amplitudes) n) l l' l'') (sym f) (subst (λ (x : Numbers). Read s b next ordered moved (arrays (a .places) (a .levels) (a .amplitudes) x) l l' l'') (sym e) h)
+pub read-same : {s : Scene} {b : ℕ} {ordered : Bool} {moved : Clocks} {a : Arrays} {n : Numbers} {l l' l'' : List ℕ} → Read s b ordered moved a l l' l'' → n ≡ a .state → Read s b ordered moved (arrays (a .places) (a .levels) (a .amplitudes) n) l l' l''
+read-same {s} {b} {ordered} {moved} {a} {n} {l} {l'} {l''} h e = subst (λ (x : Numbers). Read s b ordered moved (arrays (a .places) (a .levels) (a .amplitudes) x) l l' l'') (sym e) h
 
 -- ---- the block
 
-module _ {s : Scene} {b next : ℕ} {ordered : Bool} {moved : Clocks} {a : Arrays} {l l' l'' : List ℕ} (ok : SceneOk s) (h : Read s b next ordered moved a l l' l'') where
+module _ {s : Scene} {b : ℕ} {ordered : Bool} {moved : Clocks} {a : Arrays} {l l' l'' : List ℕ} (ok : SceneOk s) (h : Read s b ordered moved a l l' l'') where
   abbrev m : Mixer
   m = mixerOrdered s b (mixerAt s b)
 
@@ -368,7 +364,7 @@ module _ {s : Scene} {b next : ℕ} {ordered : Bool} {moved : Clocks} {a : Array
       block-samples samples there q =
           q ∙ with-clocks (λ (x : Clocks). blockHeard still cut x (arraysWaited waits step x a) samples ≡ showPiece s samples b) (sym (heard-by samples there rests waits (case-of rests waits e f)))
 
-      block-turn : {moved' : Clocks} {a' : Arrays} → moved' ≡ chunkClocks (s .head) (chunkCount (s .head)) moved → a' ≡ chunkArrays still cut moved (chunkCount cut) (arraysWaited waits step moved a) → Before s (b + 1) next moved' a' l l' l''
+      block-turn : {moved' : Clocks} {a' : Arrays} → moved' ≡ chunkClocks (s .head) (chunkCount (s .head)) moved → a' ≡ chunkArrays still cut moved (chunkCount cut) (arraysWaited waits step moved a) → Before s (b + 1) moved' a' l l' l''
       block-turn {moved'} {a'} p q =
           let count = chunkCount (s .head) in
           record {
@@ -379,41 +375,34 @@ module _ {s : Scene} {b next : ℕ} {ordered : Bool} {moved : Clocks} {a : Array
                 (subst (λ (n : ℕ). StandsFor s (mixerNew s) (chunksDone s count m) n (chunkArrays still cut (m .clocks) (chunkCount cut) (arraysWaited waits step (m .clocks) a)) l l' l'') (next-count b count)
                 (stands-by rests waits (case-of rests waits e f))));
             clocks = p ∙ ap (chunkClocks (s .head) count) (h .clocks) ∙ sym (block-clocks s m count) ∙ ap (λ (x : Mixer). x .clocks) (mixer-next s b);
-            orders = h .orders;
             settled = subst (SettledMixer s) (mixer-next s b) (block-settles s ok m chunks (h .stands .inside));
           }
         where
           next-count : (b q : ℕ) → b * q + q ≡ (b + 1) * q
           next-count b q = omega arith
 
--- ---- the loop, which knows of the scene its head and its orders
+-- ---- the loop, which knows of the scene its head and how many orders it has
 
-pub record Shown (s : Scene) (h : Head) (o : List OrderLine) (n : ℕ) (samples : Recordings) (c : Clocks) (a : Arrays) (l l' l'' : List ℕ) : Type 0 where
+pub record Shown (s : Scene) (h : Head) (n : ℕ) (t : Table) (links : List ℕ) (samples : Recordings) (c : Clocks) (a : Arrays) (l l' l'' : List ℕ) : Type 0 where
   pub ok : SceneOk s
   pub there : SamplesOk s samples
   pub begins : Begins s c a l l' l''
+  pub orders : OrdersReady s t links
   pub head : h ≡ s .head
-  pub orders : o ≡ s .orders
   pub count : n ≡ s .«order_count»
 
-pub record Reached (s : Scene) (samples : Recordings) (b next : ℕ) (moved : Clocks) (a : Arrays) (l l' l'' : List ℕ) (out₀ out : List Float) : Type 0 where
-  pub before : Before s b next moved a l l' l''
+pub record Reached (s : Scene) (samples : Recordings) (b : ℕ) (moved : Clocks) (a : Arrays) (l l' l'' : List ℕ) (out₀ out : List Float) : Type 0 where
+  pub before : Before s b moved a l l' l''
   pub written : out ≡ begun (pieces (showPiece s samples) b) out₀
 
-pub shown-as : {s : Scene} {samples : Recordings} {c : Clocks} {a : Arrays} {l l' l'' : List ℕ} → SceneOk s → SamplesOk s samples → Begins s c a l l' l'' → Shown s (s .head) (s .orders) (s .«order_count») samples c a l l' l''
-shown-as ok there begins = record { ok = ok; there = there; begins = begins; head = refl; orders = refl; count = refl }
+pub shown-as : {s : Scene} {t : Table} {links : List ℕ} {samples : Recordings} {c : Clocks} {a : Arrays} {l l' l'' : List ℕ} → SceneOk s → SamplesOk s samples → Begins s c a l l' l'' → OrdersReady s t links → Shown s (s .head) (s .«order_count») t links samples c a l l' l''
+shown-as ok there begins orders = record { ok = ok; there = there; begins = begins; orders = orders; head = refl; count = refl }
 
-module _ {s : Scene} {h : Head} {o : List OrderLine} {n : ℕ} {samples : Recordings} {c : Clocks} {a₀ : Arrays} {l l' l'' : List ℕ} (k : Shown s h o n samples c a₀ l l' l'') where
-  pub reached-first : (out₀ : List Float) → Reached s samples 0 0 c a₀ l l' l'' out₀ out₀
+module _ {s : Scene} {h : Head} {n : ℕ} {t : Table} {links : List ℕ} {samples : Recordings} {c : Clocks} {a₀ : Arrays} {l l' l'' : List ℕ} (k : Shown s h n t links samples c a₀ l l' l'') where
+  pub reached-first : (out₀ : List Float) → Reached s samples 0 c a₀ l l' l'' out₀ out₀
   reached-first out₀ = record { before = show-begins (k .ok) (k .there) (k .begins); written = begun-zero (showPiece s samples) out₀ }
 
-  module _ {b next : ℕ} {moved : Clocks} {a : Arrays} {out₀ out : List Float} (r : Reached s samples b next moved a l l' l'' out₀ out) where
-    -- what reading orders asks
-    pub orders-ask : (n ≤ orderLines) × (OrdersThere o n × ((length (a .state .kinds) ≡ kindsSize) × ((length (a .state .counts) ≡ countsSize) × ((length (a .state .shorts) ≡ shortsSize) × ((length (a .state .values) ≡ valuesSize) × (length (a .state .times) ≡ timesSize))))))
-    orders-ask =
-        let sized = r .before .stands .sized .state in
-        (rw (k .count) (k .ok .orderCount), (rw (k .orders, k .count) (orders-there (k .ok)), (sized .kinds, (sized .counts, (sized .shorts, (sized .values, sized .times))))))
-
+  module _ {b : ℕ} {moved : Clocks} {a : Arrays} {out₀ out : List Float} (r : Reached s samples b moved a l l' l'' out₀ out) where
     -- the arrays keep their lengths
     pub kept-sizes : (length (a .state .kinds) ≡ length (a₀ .state .kinds)) × (length (a .state .counts) ≡ length (a₀ .state .counts)) × (length (a .state .shorts) ≡ length (a₀ .state .shorts)) × (length (a .state .values) ≡ length (a₀ .state .values)) × (length (a .state .times) ≡ length (a₀ .state .times))
     kept-sizes =
@@ -425,13 +414,19 @@ module _ {s : Scene} {h : Head} {o : List OrderLine} {n : ℕ} {samples : Record
       inside : b < s .head .blocks
       inside = subst (λ (x : Head). b < x .blocks) (k .head) more
 
-      pub read-some : {x : Numbers} {next' : ℕ} → x ≡ stateOrdered (a .levels) o n b (a .state) → next' ≡ nextOrders o n (h .blocks) b → Read s b next' true moved (arrays (a .places) (a .levels) (a .amplitudes) x) l l' l''
-      read-some e f = orders-read (k .ok) (r .before) inside (e ∙ rw (k .orders, k .count) refl) (f ∙ rw (k .orders, k .count, k .head) refl)
+      -- what reading orders asks
+      pub orders-ask : TableOk n b t links × ((length (a .state .kinds) ≡ kindsSize) × ((length (a .state .counts) ≡ countsSize) × ((length (a .state .shorts) ≡ shortsSize) × ((length (a .state .values) ≡ valuesSize) × (length (a .state .times) ≡ timesSize)))))
+      orders-ask =
+          let sized = r .before .stands .sized .state in
+          (subst (λ (i : ℕ). TableOk i b t links) (sym (k .count)) (table-ok (k .ok) (k .orders) inside), (sized .kinds, (sized .counts, (sized .shorts, (sized .values, sized .times)))))
 
-      pub read-none : (b ≡ next → ⊥) → Read s b next false moved a l l' l''
-      read-none other = none-there (k .ok) (r .before) inside other
+      pub read-some : {x : Numbers} → ((orders : List OrderLine) → OrdersIn orders n t → x ≡ stateOrdered (a .levels) orders n b (a .state)) → Read s b true moved (arrays (a .places) (a .levels) (a .amplitudes) x) l l' l''
+      read-some {x} e = orders-read (k .ok) (r .before) inside (subst (λ (i : ℕ). OrdersIn (s .orders) i t → x ≡ stateOrdered (a .levels) (s .orders) i b (a .state)) (k .count) (e (s .orders)) (k .orders .held))
 
-  module _ {b next : ℕ} {ordered : Bool} {moved : Clocks} {a : Arrays} (r : Read s b next ordered moved a l l' l'') (nanos : ℕ) (step : Float) (counted : (nanos ≡ 0) ⊎ (nanos ≡ blockNanos h)) where
+      pub read-none : {v : ℕ} → v ≡ firstLine links b → n ≤ v → Read s b false moved a l l' l''
+      read-none e past = none-there (k .ok) (r .before) inside (none-read (k .ok) (k .orders) inside e (le-trans (le-of-eq (sym (k .count))) past) (mixerAt s b))
+
+  module _ {b : ℕ} {ordered : Bool} {moved : Clocks} {a : Arrays} (r : Read s b ordered moved a l l' l'') (nanos : ℕ) (step : Float) (counted : (nanos ≡ 0) ⊎ (nanos ≡ blockNanos h)) where
     counts : (nanos ≡ 0) ⊎ (nanos ≡ blockNanos (s .head))
     counts = subst (λ (x : Head). (nanos ≡ 0) ⊎ (nanos ≡ blockNanos x)) (k .head) counted
 
@@ -442,7 +437,7 @@ module _ {s : Scene} {h : Head} {o : List OrderLine} {n : ℕ} {samples : Record
     module _ {rests waits : Bool} (e : rests ≡ blockRests nanos a) (f : waits ≡ blockWaits rests ordered nanos step h moved a) where
       reached-next : {moved' : Clocks} {a' : Arrays} {out₀ out last : List Float} → moved' ≡ chunkClocks h (chunkCount h) moved → a' ≡ chunkArrays (blockStill rests waits) (blockHead (blockStill rests waits) h) moved (chunkCount (blockHead (blockStill rests waits) h)) (arraysWaited waits step moved a) → out ≡ begun (pieces (showPiece s samples) b) out₀
           → last ≡ blockHeard (blockStill rests waits) (blockHead (blockStill rests waits) h) moved (arraysWaited waits step moved a) samples
-          → Reached s samples (b + 1) next moved' a' l l' l'' out₀ (take (b * (h .block * h .channels)) out ++ (last ++ drop (b * (h .block * h .channels) + h .block * h .channels - b * (h .block * h .channels)) (drop (b * (h .block * h .channels)) out)))
+          → Reached s samples (b + 1) moved' a' l l' l'' out₀ (take (b * (h .block * h .channels)) out ++ (last ++ drop (b * (h .block * h .channels) + h .block * h .channels - b * (h .block * h .channels)) (drop (b * (h .block * h .channels)) out)))
       reached-next {moved'} {a'} {out₀} {out} {last} p q w heard =
           let still = blockStill rests waits in
           let by : waits ≡ blockWaits rests ordered nanos step (s .head) moved a = subst (λ (x : Head). waits ≡ blockWaits rests ordered nanos step x moved a) (k .head) f in
@@ -455,7 +450,7 @@ module _ {s : Scene} {h : Head} {o : List OrderLine} {n : ℕ} {samples : Record
 
     -- the block as the definitions say it
     pub reached-after : {moved' : Clocks} {a' : Arrays} {out₀ out last : List Float} → moved' ≡ chunkClocks h (chunkCount h) moved → a' ≡ blockAfter ordered nanos step h moved a → out ≡ begun (pieces (showPiece s samples) b) out₀ → last ≡ blockOut ordered nanos step h moved a samples
-        → Reached s samples (b + 1) next moved' a' l l' l'' out₀ (take (b * (h .block * h .channels)) out ++ (last ++ drop (b * (h .block * h .channels) + h .block * h .channels - b * (h .block * h .channels)) (drop (b * (h .block * h .channels)) out)))
+        → Reached s samples (b + 1) moved' a' l l' l'' out₀ (take (b * (h .block * h .channels)) out ++ (last ++ drop (b * (h .block * h .channels) + h .block * h .channels - b * (h .block * h .channels)) (drop (b * (h .block * h .channels)) out)))
     unfolding blockAfter blockOut
     reached-after p q w heard = reached-next refl refl p q w heard
 

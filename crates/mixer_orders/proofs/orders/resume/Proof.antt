@@ -1,5 +1,4 @@
 -- `resume` meets its contract. Assumes nothing.
-use Rattle.mixer_orders.specs.Orders.{isResume}
 use Rattle.scene.specs.declared.scene.OrderKind.the-variants.{Resume}
 use Rattle.mixer_orders.proofs.laws.Steps.{resume-order, no-resume, index-by}
 use mathlib.Core.Path.{refl}
@@ -33,7 +32,6 @@ resume-track-requires : tie.Need-resume-track-requires
 resume-track-requires c κs = (index-by (c .before .before .before .before .before .before .before .before .before .before .before .before .before .args .order) Resume (c .before .before .before .before .before .enum-told6 .given .1) (c .before .before .before .before .before .before .before .before .before .before .before .before .before .pre .0 .index), c .before .before .before .before .before .before .before .before .before .before .before .before .before .pre .1)
 
 returns : tie.Need-returns
-unfolding isResume
 returns c =
     let a = c .before .before .before .before .before .before .before .before .args in
     let n : Numbers = numbers (a .kinds .now) (a .counts .now) (a .shorts .now) (a .values .now) (a .times .now) in
@@ -41,7 +39,6 @@ returns c =
     no-resume (a .levels .now) o n (c .enum-told .given .1) refl
 
 returns-2 : tie.Need-returns-2
-unfolding isResume
 returns-2 c =
     let a = c .before .before .before .before .before .before .before .before .args in
     let n : Numbers = numbers (a .kinds .now) (a .counts .now) (a .shorts .now) (a .values .now) (a .times .now) in
@@ -49,7 +46,6 @@ returns-2 c =
     no-resume (a .levels .now) o n (c .enum-told2 .given .1) refl
 
 returns-3 : tie.Need-returns-3
-unfolding isResume
 returns-3 c =
     let a = c .before .before .before .before .before .before .before .before .args in
     let n : Numbers = numbers (a .kinds .now) (a .counts .now) (a .shorts .now) (a .values .now) (a .times .now) in
@@ -57,7 +53,6 @@ returns-3 c =
     no-resume (a .levels .now) o n (c .enum-told3 .given .1) refl
 
 returns-4 : tie.Need-returns-4
-unfolding isResume
 returns-4 c =
     let a = c .before .before .before .before .before .before .before .before .args in
     let n : Numbers = numbers (a .kinds .now) (a .counts .now) (a .shorts .now) (a .values .now) (a .times .now) in
@@ -65,7 +60,6 @@ returns-4 c =
     no-resume (a .levels .now) o n (c .enum-told4 .given .1) refl
 
 returns-5 : tie.Need-returns-5
-unfolding isResume
 returns-5 c =
     let a = c .before .before .before .before .before .before .before .before .args in
     let n : Numbers = numbers (a .kinds .now) (a .counts .now) (a .shorts .now) (a .values .now) (a .times .now) in

@@ -1,62 +1,64 @@
--- `with_resumes` meets its contract. Assumes nothing.
-use Rattle.mixer_orders.proofs.laws.Steps.{resume-done, resume-skipped}
-use Rattle.mixer_orders.proofs.laws.Marked.{indices-fit, counts-by-marks, resume-here}
-use Rattle.mixer_orders.specs.Orders.{resumeStepOn}
-use Rattle.parameter_store.specs.Store.{numbers, kindsSize, countsSize, shortsSize, valuesSize, timesSize}
-use Rattle.laws.proofs.laws.Turns.{upto-ended}
-use Rattle.laws.proofs.laws.Loop.{upto-zero, upto-turn}
-use Rattle.laws.specs.Loop.{upto}
-use native.Mathlib.Nat.{lt-of-lt-of-le}
+-- `with_resumes` meets its contract. The invariant: what the lines of the block before line i have done. Assumes nothing.
+use mathlib.Core.Path.{_≡_, _∙_}
+use Prim.Native.Nat.{_-_}
+use native.Mathlib.Omega.{arith}
 use borrow.Author.Needs.{needs}
 use lib.ListN.{length}
-use Prim.Native.Nat.{_-_, _≤_}
-use mathlib.Core.Path.{_≡_, sym, _∙_}
+use Rattle.order_table.specs.Table.{tableOf}
+use Rattle.parameter_store.specs.Store.{numbers, kindsSize, countsSize, shortsSize, valuesSize, timesSize}
+use Rattle.mixer_orders.proofs.laws.Marked.{Reading, resumeSteps, line-there, line-asks, next-found, resumes-first, resumes-next}
 use Rattle.mixer_orders.proofs.orders.with_resumes.Statement.{statement}
 use Rattle.mixer_orders.proofs.orders.with_resumes.Tie as tie
 
 abbrev Inv-loop : tie.InvT-loop
-Inv-loop levels kinds₀ counts₀ shorts₀ values₀ times₀ count block marks orders i₀ kinds counts shorts values times i =
-    (i ≤ count) × ((length kinds ≡ kindsSize) × ((length counts ≡ countsSize) × ((length shorts ≡ shortsSize) × ((length values ≡ valuesSize) × ((length times ≡ timesSize) × (numbers kinds counts shorts values times ≡ upto (resumeStepOn levels orders count block) i (numbers kinds₀ counts₀ shorts₀ values₀ times₀)))))))
+Inv-loop levels kinds₀ counts₀ shorts₀ values₀ times₀ lines targets line-kinds line-counts line-shorts line-times links count block marks i₀ kinds counts shorts values times i =
+    (length kinds ≡ kindsSize) × ((length counts ≡ countsSize) × ((length shorts ≡ shortsSize) × ((length values ≡ valuesSize) × ((length times ≡ timesSize) × Reading (resumeSteps levels count block) count block (tableOf lines targets line-kinds line-counts line-shorts line-times) (numbers kinds₀ counts₀ shorts₀ values₀ times₀) i (numbers kinds counts shorts values times)))))
 
 abbrev μ-loop : tie.MeasureT-loop
-μ-loop levels kinds₀ counts₀ shorts₀ values₀ times₀ count block marks orders i₀ kinds counts shorts values times i =
+μ-loop levels kinds₀ counts₀ shorts₀ values₀ times₀ lines targets line-kinds line-counts line-shorts line-times links count block marks i₀ kinds counts shorts values times i =
     count - i
 
+first-line-requires : tie.Need-first-line-requires Inv-loop μ-loop
+first-line-requires c κs = c .before .before .before .before .before .before .before .before .before .before .before .pre .0 .inside
+
 loop-holds : tie.Need-loop-holds Inv-loop μ-loop
-loop-holds c = (search needs, (search needs, (search needs, (search needs, (search needs, (search needs, (sym (upto-zero (resumeStepOn (c .before .before .before .before .before .args .levels .now) (c .before .before .before .before .before .args .t7) (c .before .before .before .before .before .args .count) (c .before .before .before .before .before .args .block)) (numbers (c .before .before .before .before .before .args .kinds .now) (c .before .before .before .before .before .args .counts .now) (c .before .before .before .before .before .args .shorts .now) (c .before .before .before .before .before .args .values .now) (c .before .before .before .before .before .args .times .now))))))))))
+loop-holds c =
+    let start = c .before .before .before .before .before .before .before .before .before .before .before .before in
+    let a = start .args in
+    let p = start .pre .1 in
+    (p .0, (p .1 .0, (p .1 .1 .0, (p .1 .1 .1 .0, (p .1 .1 .1 .1 .0, resumes-first (start .pre .0) (a .levels .now) (numbers (a .kinds .now) (a .counts .now) (a .shorts .now) (a .values .now) (a .times .now)) (c .first-line .ensures))))))
 
-mul-line : tie.Need-mul-line Inv-loop μ-loop
-mul-line c = search needs
+order-at-requires : tie.Need-order-at-requires Inv-loop μ-loop
+order-at-requires c κs =
+    let ok = c .before .before .before .before .before .before .before .before .before .before .before .before .before .before .pre .0 in
+    let s = ok .sized in
+    (omega (arith, c .loop-test .taken, ok .few), (s .lines, (s .targets, (s .kinds, (s .counts, (s .shorts, s .times))))))
 
-array-copy-out-line : tie.Need-array-copy-out-line Inv-loop μ-loop
-array-copy-out-line c = search needs
-
-add-i : tie.Need-add-i Inv-loop μ-loop
-add-i c = search needs
-
-resumes-in-requires : tie.Need-resumes-in-requires Inv-loop μ-loop
-resumes-in-requires c κs = search needs
+next-line-requires : tie.Need-next-line-requires Inv-loop μ-loop
+next-line-requires c κs = omega (arith, c .before .loop-test .taken, c .before .before .before .before .before .before .before .before .before .before .before .before .before .before .before .pre .0 .few)
 
 counts-by-requires : tie.Need-counts-by-requires Inv-loop μ-loop
-counts-by-requires c κs =
-    let test = c .before .before .before in
-    let start = test .before .before .before .before .before .before .before in
-    (indices-fit (start .args .t7) (start .args .count) (start .pre .1 .0) (test .before .loop .i) (test .loop-test .taken), lt-of-lt-of-le (test .loop-test .taken) (start .pre .0))
+counts-by-requires c κs = line-asks (c .before .before .before .before .before .before .before .before .before .before .before .before .before .before .before .before .pre .0) (c .before .before .loop-test .taken) (c .before .order-at .ensures)
 
 resume-where-requires : tie.Need-resume-where-requires Inv-loop μ-loop
-resume-where-requires c κs = (c .before .before .before .before .before .before .before .before .before .before .before .before .before .before .before .before .pre .1 .0 (c .before .before .before .before .before .before .before .before .before .before .loop .i) (c .before .before .before .before .before .before .before .before .before .loop-test .taken), (c .before .before .before .before .before .before .before .before .before .before .loop .inv .1 .0, (c .before .before .before .before .before .before .before .before .before .before .loop .inv .1 .1 .0, (c .before .before .before .before .before .before .before .before .before .before .loop .inv .1 .1 .1 .0, (c .before .before .before .before .before .before .before .before .before .before .loop .inv .1 .1 .1 .1 .0, c .before .before .before .before .before .before .before .before .before .before .loop .inv .1 .1 .1 .1 .1 .0)))))
+resume-where-requires c κs =
+    let i = c .before .before .before .before .before .before .before .before .before .loop .inv in
+    (line-there (c .before .before .before .before .before .before .before .before .before .before .before .before .before .before .before .before .before .before .before .before .before .before .pre .0) (c .before .before .before .before .before .before .before .before .loop-test .taken) (c .before .before .before .before .before .before .before .order-at .ensures), (i .0, (i .1 .0, (i .1 .1 .0, (i .1 .1 .1 .0, i .1 .1 .1 .1 .0)))))
 
 loop-less : tie.Need-loop-less Inv-loop μ-loop
-loop-less c = search needs
+loop-less c =
+    let l = c .before .before .before .before .before .before .before .before .before .before .before .before .before .before .before .before .before .before .before .before in
+    let more = c .before .before .before .before .before .before .before .before .before .before .before .before .before .before .before .before .before .before .before .loop-test .taken in
+    omega (arith, more, next-found (c .before .before .before .before .before .before .before .before .before .before .before .before .before .before .before .before .before .before .before .before .before .before .before .before .before .before .before .before .before .before .before .before .before .pre .0) (l .loop .i) more (l .loop .inv .1 .1 .1 .1 .1 .here more) (c .before .before .before .before .before .before .before .before .before .before .before .before .before .before .before .before .before .next-line .ensures) .after)
 
 loop-again : tie.Need-loop-again Inv-loop μ-loop
-loop-again c = (search needs, (search needs, (search needs, (search needs, (search needs, (search needs, (resume-done (c .before .before .before .before .before .before .before .before .before .before .before .before .before .before .before .before .before .before .before .before .before .before .before .before .before .before .before .args .levels .now) (c .before .before .before .before .before .before .before .before .before .before .before .before .before .before .before .before .before .before .before .before .before .before .before .before .before .before .before .args .t7) (c .before .before .before .before .before .before .before .before .before .before .before .before .before .before .before .before .before .before .before .before .before .before .before .before .before .before .before .args .count) (c .before .before .before .before .before .before .before .before .before .before .before .before .before .before .before .before .before .before .before .before .before .before .before .before .before .before .before .args .block) (c .before .before .before .before .before .before .before .before .before .before .before .before .before .before .before .before .before .before .before .before .before .loop .i) _ (counts-by-marks (c .before .before .before .before .before .before .before .before .before .before .before .before .before .before .before .before .before .before .before .before .before .before .before .before .before .before .before .args .t7) (c .before .before .before .before .before .before .before .before .before .before .before .before .before .before .before .before .before .before .before .before .before .before .before .before .before .before .before .args .count) (c .before .before .before .before .before .before .before .before .before .before .before .before .before .before .before .before .before .before .before .before .before .before .before .before .before .before .before .args .block) (c .before .before .before .before .before .before .before .before .before .before .before .before .before .before .before .before .before .before .before .before .before .loop .i) (c .before .before .before .before .before .before .before .before .before .before .before .before .before .before .before .before .before .before .before .before .before .before .before .before .before .before .before .pre .1 .0) (c .before .before .before .before .before .before .before .before .before .before .before .before .before .before .before .before .before .before .before .before .before .before .before .before .before .before .before .pre .1 .1 .1 .1 .1 .1 .1) (c .before .before .before .before .before .before .before .before .before .before .before .before .before .before .before .before .before .before .before .before .loop-test .taken) (resume-here _ (c .before .before .before .before .before .before .before .before .before .before .before .before .before .before .before .before .before .before .before .before .before .before .before .before .before .before .before .args .block) (c .before .before .before .before .before .before .before .before .before .before .before .before .before .before .before .before .before .before .resumes-in .ensures) (c .before .before .before .before .before .before .before .before .before .before .before .before .before .before .before .before .before .if1 .taken)) (c .before .before .before .before .before .before .before .before .before .before .before .before .before .before .before .before .counts-by .ensures)) (c .before .before .before .before .before .before .before .before .before .before .resume-where .ensures) ∙ upto-turn (resumeStepOn (c .before .before .before .before .before .before .before .before .before .before .before .before .before .before .before .before .before .before .before .before .before .before .before .before .before .before .before .args .levels .now) (c .before .before .before .before .before .before .before .before .before .before .before .before .before .before .before .before .before .before .before .before .before .before .before .before .before .before .before .args .t7) (c .before .before .before .before .before .before .before .before .before .before .before .before .before .before .before .before .before .before .before .before .before .before .before .before .before .before .before .args .count) (c .before .before .before .before .before .before .before .before .before .before .before .before .before .before .before .before .before .before .before .before .before .before .before .before .before .before .before .args .block)) (c .before .before .before .before .before .before .before .before .before .before .before .before .before .before .before .before .before .before .before .before .before .loop .i) (numbers (c .before .before .before .before .before .before .before .before .before .before .before .before .before .before .before .before .before .before .before .before .before .before .before .before .before .before .before .args .kinds .now) (c .before .before .before .before .before .before .before .before .before .before .before .before .before .before .before .before .before .before .before .before .before .before .before .before .before .before .before .args .counts .now) (c .before .before .before .before .before .before .before .before .before .before .before .before .before .before .before .before .before .before .before .before .before .before .before .before .before .before .before .args .shorts .now) (c .before .before .before .before .before .before .before .before .before .before .before .before .before .before .before .before .before .before .before .before .before .before .before .before .before .before .before .args .values .now) (c .before .before .before .before .before .before .before .before .before .before .before .before .before .before .before .before .before .before .before .before .before .before .before .before .before .before .before .args .times .now)) (c .before .before .before .before .before .before .before .before .before .before .before .before .before .before .before .before .before .before .before .before .before .loop .inv .1 .1 .1 .1 .1 .1))))))))
-
-loop-less-2 : tie.Need-loop-less-2 Inv-loop μ-loop
-loop-less-2 c = search needs
-
-loop-again-2 : tie.Need-loop-again-2 Inv-loop μ-loop
-loop-again-2 c = (search needs, (search needs, (search needs, (search needs, (search needs, (search needs, ((resume-skipped (c .before .before .before .before .before .before .before .before .before .before .args .levels .now) (c .before .before .before .before .before .before .before .before .before .before .args .t7) (c .before .before .before .before .before .before .before .before .before .before .args .count) (c .before .before .before .before .before .before .before .before .before .before .args .block) (c .before .before .before .before .loop .i) _ (c .before .resumes-in .ensures) (c .if1 .left)) ∙ upto-turn (resumeStepOn (c .before .before .before .before .before .before .before .before .before .before .args .levels .now) (c .before .before .before .before .before .before .before .before .before .before .args .t7) (c .before .before .before .before .before .before .before .before .before .before .args .count) (c .before .before .before .before .before .before .before .before .before .before .args .block)) (c .before .before .before .before .loop .i) (numbers (c .before .before .before .before .before .before .before .before .before .before .args .kinds .now) (c .before .before .before .before .before .before .before .before .before .before .args .counts .now) (c .before .before .before .before .before .before .before .before .before .before .args .shorts .now) (c .before .before .before .before .before .before .before .before .before .before .args .values .now) (c .before .before .before .before .before .before .before .before .before .before .args .times .now)) (c .before .before .before .before .loop .inv .1 .1 .1 .1 .1 .1))))))))
+loop-again c =
+    let l = c .before .before .before .before .before .before .before .before .before .before .before .before .before .before .before .before .before .before .before .before in
+    let start = c .before .before .before .before .before .before .before .before .before .before .before .before .before .before .before .before .before .before .before .before .before .before .before .before .before .before .before .before .before .before .before .before .before in
+    let a = start .args in
+    let kept = c .before .before .before .before .before .before .before .before .before .before .resume-where .kept in
+    let i = l .loop .inv in
+    (kept .1 .0 ∙ i .0, (kept .1 .1 .0 ∙ i .1 .0, (kept .1 .1 .1 .0 ∙ i .1 .1 .0, (kept .1 .1 .1 .1 .0 ∙ i .1 .1 .1 .0, (kept .1 .1 .1 .1 .1 .0 ∙ i .1 .1 .1 .1 .0, resumes-next (start .pre .0) (a .levels .now) (numbers (a .kinds .now) (a .counts .now) (a .shorts .now) (a .values .now) (a .times .now)) (l .loop .i) (c .before .before .before .before .before .before .before .before .before .before .before .before .before .before .before .before .before .before .before .loop-test .taken) (c .before .before .before .before .before .before .before .before .before .before .before .before .before .before .before .before .before .next-line .ensures) (c .before .before .before .before .before .before .before .before .before .before .before .before .before .before .before .before .before .before .order-at .ensures) (start .pre .1 .1 .1 .1 .1 .1) (c .before .before .before .before .before .before .before .before .before .before .before .before .before .before .before .before .counts-by .ensures) (c .before .before .before .before .before .before .before .before .before .before .resume-where .ensures) (l .loop .inv .1 .1 .1 .1 .1))))))
 
 same-length : tie.Need-same-length Inv-loop μ-loop
 same-length c = search needs
@@ -74,7 +76,7 @@ same-length-5 : tie.Need-same-length-5 Inv-loop μ-loop
 same-length-5 c = search needs
 
 returns : tie.Need-returns Inv-loop μ-loop
-returns c = upto-ended (resumeStepOn (c .before .before .before .before .before .before .before .args .levels .now) (c .before .before .before .before .before .before .before .args .t7) (c .before .before .before .before .before .before .before .args .count) (c .before .before .before .before .before .before .before .args .block)) (numbers (c .before .before .before .before .before .before .before .args .kinds .now) (c .before .before .before .before .before .before .before .args .counts .now) (c .before .before .before .before .before .before .before .args .shorts .now) (c .before .before .before .before .before .before .before .args .values .now) (c .before .before .before .before .before .before .before .args .times .now)) (c .before .loop .inv .0) (c .loop-test .left) (c .before .loop .inv .1 .1 .1 .1 .1 .1)
+returns c = λ orders held. c .before .loop .inv .1 .1 .1 .1 .1 .walks orders held .done (c .loop-test .left)
 
 pub with-resumes-spec : {M : Type 1} → statement M
 with-resumes-spec =
@@ -82,17 +84,14 @@ with-resumes-spec =
     (tie.spec
     Inv-loop
     μ-loop
+    first-line-requires
     loop-holds
-    mul-line
-    array-copy-out-line
-    add-i
-    resumes-in-requires
+    order-at-requires
+    next-line-requires
     counts-by-requires
     resume-where-requires
     loop-less
     loop-again
-    loop-less-2
-    loop-again-2
     same-length
     same-length-2
     same-length-3

@@ -16,6 +16,7 @@ use Rattle.renderer.proofs.laws.Renderer.{few-frames}
 use Rattle.parameter_store.specs.Store.{Numbers, numbers, Sized, kindsSize, countsSize, shortsSize, valuesSize, timesSize}
 use Rattle.block_render.proofs.laws.Linked.{chunk-fits}
 use Rattle.scene_render.proofs.laws.Blocks.{wide-head, wide-last, rest-is}
+use Rattle.scene_render.proofs.laws.Orders.{blank-sized, orders-laid, links-ask}
 use Rattle.scene_render.proofs.laws.Start.{new-made, counts-fit, parents-earlier, laid-begins}
 use Rattle.scene_render.proofs.blocks.render_scene.Statement.{statement}
 use Rattle.scene_render.proofs.blocks.render_scene.Tie as tie
@@ -131,6 +132,36 @@ put-mixer-requires c κs =
     let few = counts-fit (start .pre .0) (start .pre .1 .0) (c .before .before .before .before .before .before .before .before .before .before .before .before .before .before .before .before .before .before .new .ensures) (c .before .before .before .before .before .before .before .before .before .before .before .before .before .before .before .before .chunk-of .ensures) (c .before .before .before .before .before .before .before .before .before .before .before .before .flatten .ensures .0) (c .before .before .before .before .before .before .before .before .before .before .before .before .flatten .ensures .1 .0) (c .before .before .before .before .before .before .before .before .before .before .before .before .flatten .ensures .1 .1) in
     (few .0, (few .1 .0, (few .1 .1, zeros-sized)))
 
+slice-aggregate-put-orders : tie.Need-slice-aggregate-put-orders
+slice-aggregate-put-orders c = search needs
+
+slice-aggregate-put-orders-2 : tie.Need-slice-aggregate-put-orders-2
+slice-aggregate-put-orders-2 c = search needs
+
+slice-aggregate-put-orders-3 : tie.Need-slice-aggregate-put-orders-3
+slice-aggregate-put-orders-3 c = search needs
+
+slice-aggregate-put-orders-4 : tie.Need-slice-aggregate-put-orders-4
+slice-aggregate-put-orders-4 c = search needs
+
+slice-aggregate-put-orders-5 : tie.Need-slice-aggregate-put-orders-5
+slice-aggregate-put-orders-5 c = search needs
+
+slice-aggregate-put-orders-6 : tie.Need-slice-aggregate-put-orders-6
+slice-aggregate-put-orders-6 c = search needs
+
+put-orders-requires : tie.Need-put-orders-requires
+put-orders-requires c κs =
+    let ok = c .before .before .before .before .before .before .before .before .before .before .before .before .before .before .before .before .before .before .before .before .before .before .before .before .before .before .before .before .before .before .before .before .before .before .before .before .before .before .before .before .before .before .before .before .before .pre .0 in
+    let z = blank-sized in
+    (ok .orderCount, (λ i b. ok .orders i b .millis, (z .lines, (z .targets, (z .kinds, (z .counts, (z .shorts, z .times)))))))
+
+slice-aggregate-links-by-block : tie.Need-slice-aggregate-links-by-block
+slice-aggregate-links-by-block c = search needs
+
+links-by-block-requires : tie.Need-links-by-block-requires
+links-by-block-requires c κs = links-ask (c .before .before .before .before .before .before .before .before .before .before .before .before .before .before .before .before .before .before .before .before .before .before .before .before .before .before .before .before .before .before .before .before .before .before .before .before .before .before .before .before .before .before .before .before .before .before .before .before .before .before .before .before .before .pre .0) (c .before .before .before .before .before .before .before .put-orders .ensures)
+
 slice-aggregate-render-blocks : tie.Need-slice-aggregate-render-blocks
 slice-aggregate-render-blocks c = search needs
 
@@ -146,13 +177,31 @@ slice-aggregate-render-blocks-4 c = search needs
 slice-aggregate-render-blocks-5 : tie.Need-slice-aggregate-render-blocks-5
 slice-aggregate-render-blocks-5 c = search needs
 
+slice-aggregate-render-blocks-6 : tie.Need-slice-aggregate-render-blocks-6
+slice-aggregate-render-blocks-6 c = search needs
+
+slice-aggregate-render-blocks-7 : tie.Need-slice-aggregate-render-blocks-7
+slice-aggregate-render-blocks-7 c = search needs
+
+slice-aggregate-render-blocks-8 : tie.Need-slice-aggregate-render-blocks-8
+slice-aggregate-render-blocks-8 c = search needs
+
+slice-aggregate-render-blocks-9 : tie.Need-slice-aggregate-render-blocks-9
+slice-aggregate-render-blocks-9 c = search needs
+
+slice-aggregate-render-blocks-10 : tie.Need-slice-aggregate-render-blocks-10
+slice-aggregate-render-blocks-10 c = search needs
+
+slice-aggregate-render-blocks-11 : tie.Need-slice-aggregate-render-blocks-11
+slice-aggregate-render-blocks-11 c = search needs
+
 render-blocks-requires : tie.Need-render-blocks-requires
 render-blocks-requires c κs =
-    let start = c .before .before .before .before .before .before .before .before .before .before .before .before .before .before .before .before .before .before .before .before .before .before .before .before .before .before .before .before .before .before .before .before .before .before .before .before .before .before .before .before .before .before .before .before .before .before .before .before .before .before .before .before .before .before .before in
-    let begins = laid-begins (start .pre .0) (start .pre .1 .0) (c .before .before .before .before .before .before .before .before .before .before .before .before .before .before .before .before .before .before .before .before .before .before .before .before .before .before .before .before .before .before .before .before .before .before .before .before .before .before .before .before .before .before .new .ensures) (c .before .before .before .before .before .before .before .before .before .before .before .before .before .before .before .before .before .before .before .before .before .before .before .before .before .before .before .before .before .before .before .before .before .before .before .before .before .before .before .before .chunk-of .ensures) (c .before .before .before .before .before .before .before .before .before .before .before .before .before .before .before .before .before .before .before .before .before .before .before .before .before .before .before .before .before .before .before .before .before .before .before .before .flatten .ensures .0) (c .before .before .before .before .before .before .before .before .before .before .before .before .before .before .before .before .before .before .before .before .before .before .before .before .before .before .before .before .before .before .before .before .before .before .before .before .flatten .ensures .1 .0) (c .before .before .before .before .before .before .before .before .before .before .before .before .before .before .before .before .before .before .before .before .before .before .before .before .before .before .before .before .before .before .before .before .before .before .before .before .flatten .ensures .1 .1) zeros refl zeros-sized (c .before .before .before .before .before .before .before .before .before .before .before .before .before .before .before .before .before .before .before .before .before .before .before .put-mixer .ensures) (c .before .before .before .before .before .before .before .before .before .before .before .before .before .before .before .before .before .before .before .before .before .before .before .before .before .before .before .before .before .before .before .before .before .before .sub-track-links .ensures) (c .before .before .before .before .before .before .before .before .before .before .before .before .before .before .before .before .before .before .before .before .before .before .before .before .before .before .before .before .before .before .before .before .links-of .ensures) (c .before .before .before .before .before .before .before .before .before .before .before .before .before .before .before .before .before .before .before .before .before .before .before .before .before .before .before .before .before .before .links-back .ensures) in
-    let last = c .before .before .before .before .before .before .before .before .before .before .before .before .before .before .before .before .before .before .before .before .before .before .before .before .before .before .before .before .before .before .before .before .before .before .before .before .before .before .before .before .before .before .before .before .before .before .before .parts-of2 .ensures ∙ ap partsOf (c .before .before .before .before .before .before .before .before .before .before .before .before .before .before .before .before .before .before .before .before .before .before .before .before .before .before .before .before .before .before .before .before .before .before .before .before .before .before .before .before .before .before .before .before .before .before .before .before .last-frames .ensures) in
-    let rest = rest-is (start .args .scene) (start .pre .0) (c .before .before .before .before .before .before .before .before .before .before .before .before .before .before .before .before .before .before .before .before .before .before .before .before .before .before .before .before .before .before .before .before .before .before .before .before .before .before .before .before .before .before .before .before .before .still-head .ensures) (c .before .before .before .before .before .before .before .before .before .before .before .before .before .before .before .before .before .before .before .before .before .before .before .before .before .before .before .before .before .before .before .before .before .before .before .before .before .before .before .before .before .before .before .before .last-frames2 .ensures) (c .before .before .before .before .before .before .before .before .before .before .before .before .before .before .before .before .before .before .before .before .before .before .before .before .before .before .before .before .before .before .before .before .before .before .before .before .before .before .before .before .before .before .before .parts-of4 .ensures) in
-    (c .before .before .before .before .before .before .before .before .before .before .before .before .before .before .before .before .before .before .before .before .before .before .before .before .before .before .before .before .before .before .before .before .before .before .before .before .before .before .before .before .before .before .before .before .before .before .before .before .before .before .before .gain-table .ensures, (start .pre .0, (start .pre .1 .0, (begins, (c .before .before .before .before .before .before .before .before .before .before .before .before .before .before .before .before .before .before .before .before .before .before .before .before .before .before .before .before .before .before .before .before .before .before .before .before .before .before .before .before .before .before .before .before .before .before .before .before .before .parts-of .ensures, (last, (c .before .before .before .before .before .before .before .before .before .before .before .before .before .before .before .before .before .before .before .before .before .before .before .before .before .before .before .before .before .before .before .before .before .before .before .before .before .before .before .before .before .before .before .before .before .before .parts-of3 .ensures, (rest, start .pre .1 .1))))))))
+    let start = c .before .before .before .before .before .before .before .before .before .before .before .before .before .before .before .before .before .before .before .before .before .before .before .before .before .before .before .before .before .before .before .before .before .before .before .before .before .before .before .before .before .before .before .before .before .before .before .before .before .before .before .before .before .before .before .before .before .before .before .before .before .before .before .before .before .before .before .before .before .before .before .before .before .before .before .before .before .before in
+    let begins = laid-begins (start .pre .0) (start .pre .1 .0) (c .before .before .before .before .before .before .before .before .before .before .before .before .before .before .before .before .before .before .before .before .before .before .before .before .before .before .before .before .before .before .before .before .before .before .before .before .before .before .before .before .before .before .before .before .before .before .before .before .before .before .before .before .before .before .before .before .before .before .before .before .before .before .before .before .before .new .ensures) (c .before .before .before .before .before .before .before .before .before .before .before .before .before .before .before .before .before .before .before .before .before .before .before .before .before .before .before .before .before .before .before .before .before .before .before .before .before .before .before .before .before .before .before .before .before .before .before .before .before .before .before .before .before .before .before .before .before .before .before .before .before .before .before .chunk-of .ensures) (c .before .before .before .before .before .before .before .before .before .before .before .before .before .before .before .before .before .before .before .before .before .before .before .before .before .before .before .before .before .before .before .before .before .before .before .before .before .before .before .before .before .before .before .before .before .before .before .before .before .before .before .before .before .before .before .before .before .before .before .flatten .ensures .0) (c .before .before .before .before .before .before .before .before .before .before .before .before .before .before .before .before .before .before .before .before .before .before .before .before .before .before .before .before .before .before .before .before .before .before .before .before .before .before .before .before .before .before .before .before .before .before .before .before .before .before .before .before .before .before .before .before .before .before .before .flatten .ensures .1 .0) (c .before .before .before .before .before .before .before .before .before .before .before .before .before .before .before .before .before .before .before .before .before .before .before .before .before .before .before .before .before .before .before .before .before .before .before .before .before .before .before .before .before .before .before .before .before .before .before .before .before .before .before .before .before .before .before .before .before .before .before .flatten .ensures .1 .1) zeros refl zeros-sized (c .before .before .before .before .before .before .before .before .before .before .before .before .before .before .before .before .before .before .before .before .before .before .before .before .before .before .before .before .before .before .before .before .before .before .before .before .before .before .before .before .before .before .before .before .before .before .put-mixer .ensures) (c .before .before .before .before .before .before .before .before .before .before .before .before .before .before .before .before .before .before .before .before .before .before .before .before .before .before .before .before .before .before .before .before .before .before .before .before .before .before .before .before .before .before .before .before .before .before .before .before .before .before .before .before .before .before .before .before .before .sub-track-links .ensures) (c .before .before .before .before .before .before .before .before .before .before .before .before .before .before .before .before .before .before .before .before .before .before .before .before .before .before .before .before .before .before .before .before .before .before .before .before .before .before .before .before .before .before .before .before .before .before .before .before .before .before .before .before .before .before .before .links-of .ensures) (c .before .before .before .before .before .before .before .before .before .before .before .before .before .before .before .before .before .before .before .before .before .before .before .before .before .before .before .before .before .before .before .before .before .before .before .before .before .before .before .before .before .before .before .before .before .before .before .before .before .before .before .before .before .links-back .ensures) in
+    let last = c .before .before .before .before .before .before .before .before .before .before .before .before .before .before .before .before .before .before .before .before .before .before .before .before .before .before .before .before .before .before .before .before .before .before .before .before .before .before .before .before .before .before .before .before .before .before .before .before .before .before .before .before .before .before .before .before .before .before .before .before .before .before .before .before .before .before .before .before .before .before .parts-of2 .ensures ∙ ap partsOf (c .before .before .before .before .before .before .before .before .before .before .before .before .before .before .before .before .before .before .before .before .before .before .before .before .before .before .before .before .before .before .before .before .before .before .before .before .before .before .before .before .before .before .before .before .before .before .before .before .before .before .before .before .before .before .before .before .before .before .before .before .before .before .before .before .before .before .before .before .before .before .before .last-frames .ensures) in
+    let rest = rest-is (start .args .scene) (start .pre .0) (c .before .before .before .before .before .before .before .before .before .before .before .before .before .before .before .before .before .before .before .before .before .before .before .before .before .before .before .before .before .before .before .before .before .before .before .before .before .before .before .before .before .before .before .before .before .before .before .before .before .before .before .before .before .before .before .before .before .before .before .before .before .before .before .before .before .before .before .before .still-head .ensures) (c .before .before .before .before .before .before .before .before .before .before .before .before .before .before .before .before .before .before .before .before .before .before .before .before .before .before .before .before .before .before .before .before .before .before .before .before .before .before .before .before .before .before .before .before .before .before .before .before .before .before .before .before .before .before .before .before .before .before .before .before .before .before .before .before .before .before .before .last-frames2 .ensures) (c .before .before .before .before .before .before .before .before .before .before .before .before .before .before .before .before .before .before .before .before .before .before .before .before .before .before .before .before .before .before .before .before .before .before .before .before .before .before .before .before .before .before .before .before .before .before .before .before .before .before .before .before .before .before .before .before .before .before .before .before .before .before .before .before .before .before .parts-of4 .ensures) in
+    (c .before .before .before .before .before .before .before .before .before .before .before .before .before .before .before .before .before .before .before .before .before .before .before .before .before .before .before .before .before .before .before .before .before .before .before .before .before .before .before .before .before .before .before .before .before .before .before .before .before .before .before .before .before .before .before .before .before .before .before .before .before .before .before .before .before .before .before .before .before .before .before .before .before .before .gain-table .ensures, (start .pre .0, (start .pre .1 .0, (begins, (c .before .before .before .before .before .before .before .before .before .before .before .before .before .before .before .before .before .before .before .before .before .before .before .before .before .before .before .before .before .before .before .before .before .before .before .before .before .before .before .before .before .before .before .before .before .before .before .before .before .before .before .before .before .before .before .before .before .before .before .before .before .before .before .before .before .before .before .before .before .before .before .before .parts-of .ensures, (last, (c .before .before .before .before .before .before .before .before .before .before .before .before .before .before .before .before .before .before .before .before .before .before .before .before .before .before .before .before .before .before .before .before .before .before .before .before .before .before .before .before .before .before .before .before .before .before .before .before .before .before .before .before .before .before .before .before .before .before .before .before .before .before .before .before .before .before .before .before .before .parts-of3 .ensures, (rest, (start .pre .1 .1, orders-laid (start .pre .0) (c .before .before .before .before .before .before .before .before .before .before .before .before .before .before .before .before .before .before .before .before .before .before .before .before .before .before .before .before .before .before .before .before .put-orders .ensures) (c .before .before .before .before .before .before .before .before .before .before .before .before .before .before .before .before .before .before .before .before .before .before .before .before .links-by-block .ensures))))))))))
 
 same-length : tie.Need-same-length
 same-length c = search needs
@@ -187,11 +236,26 @@ render-scene-spec =
     slice-aggregate-put-mixer-4
     slice-aggregate-put-mixer-5
     put-mixer-requires
+    slice-aggregate-put-orders
+    slice-aggregate-put-orders-2
+    slice-aggregate-put-orders-3
+    slice-aggregate-put-orders-4
+    slice-aggregate-put-orders-5
+    slice-aggregate-put-orders-6
+    put-orders-requires
+    slice-aggregate-links-by-block
+    links-by-block-requires
     slice-aggregate-render-blocks
     slice-aggregate-render-blocks-2
     slice-aggregate-render-blocks-3
     slice-aggregate-render-blocks-4
     slice-aggregate-render-blocks-5
+    slice-aggregate-render-blocks-6
+    slice-aggregate-render-blocks-7
+    slice-aggregate-render-blocks-8
+    slice-aggregate-render-blocks-9
+    slice-aggregate-render-blocks-10
+    slice-aggregate-render-blocks-11
     render-blocks-requires
     same-length
     returns)
