@@ -7,6 +7,11 @@ use crate::sides::{self, Side};
 /// How many are shown.
 const SHOWN: usize = 20;
 
+/// A case that takes so many times kira's time is timed again, `MORE` times as often: most such are slow
+/// once, by what else the machine did.
+const AGAIN: f64 = 1.25;
+const MORE: usize = 8;
+
 struct Case {
 	number: usize,
 	file: Vec<u8>,
@@ -18,21 +23,45 @@ struct Timed {
 	number: usize,
 	head: String,
 	frames: usize,
-	/// Both from tables that are read: a mixer is built and the show rendered.
-	room_desk: Duration,
+	/// Ours as a whole, and its reading alone.
+	whole: Duration,
+	reading: Duration,
+	/// A mixer built and the show rendered, from tables that are read.
 	kira: Duration,
 }
 
 impl Timed {
+	/// What is timed of kira.
+	fn room_desk(&self) -> Duration {
+		self.whole.saturating_sub(self.reading)
+	}
+
 	fn ratio(&self) -> f64 {
-		self.room_desk.as_secs_f64() / self.kira.as_secs_f64().max(1e-9)
+		self.room_desk().as_secs_f64() / self.kira.as_secs_f64().max(1e-9)
+	}
+
+	fn again(self, case: &Case, rounds: usize) -> Timed {
+		if self.ratio() < AGAIN {
+			return self;
+		}
+		let other = timed(case, MORE * rounds);
+		Timed {
+			whole: self.whole.min(other.whole),
+			reading: self.reading.min(other.reading),
+			kira: self.kira.min(other.kira),
+			..self
+		}
 	}
 }
 
 /// Times every case, the fastest of so many rounds, and shows those in which room_desk is slowest next to
 /// kira with `powf`. Panics where an output differs from that of kira with the table.
 pub fn run(rounds: usize) {
-	let mut all: Vec<Timed> = read().iter().map(|case| timed(case, rounds)).collect();
+	let cases = read();
+	let mut all: Vec<Timed> = cases.iter().map(|case| timed(case, rounds)).collect();
+	all = (all.into_iter().zip(&cases))
+		.map(|(first, case)| first.again(case, rounds))
+		.collect();
 	all.sort_by(|a, b| b.ratio().total_cmp(&a.ratio()));
 	println!(
 		"room_desk/kira   room_desk        kira   ns/frame; rate channels buffer block blocks volume"
@@ -42,7 +71,7 @@ pub fn run(rounds: usize) {
 		println!(
 			"{:14.3} {:11.1} {:11.1}   case {}: {}",
 			case.ratio(),
-			a_frame(case.room_desk),
+			a_frame(case.room_desk()),
 			a_frame(case.kira),
 			case.number,
 			case.head
@@ -107,7 +136,8 @@ fn timed(case: &Case, rounds: usize) -> Timed {
 		number: case.number,
 		head: text.lines().nth(1).unwrap_or_default().into(),
 		frames: tables.head.block * tables.head.blocks,
-		room_desk: whole.saturating_sub(reading),
+		whole,
+		reading,
 		kira: built,
 	}
 }

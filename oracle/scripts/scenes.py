@@ -51,6 +51,13 @@ def head(rng, limits):
     return [rate, channels, buffer, block, blocks, volume(rng, limits)]
 
 
+def short_head(rng, limits):
+    """Blocks of few frames, so that what a block costs beside them counts."""
+    channels, block = rng.pick([1, 2, 2, 3, 8]), rng.pick([1, 1, 1, 2, 3, 4, 8, 16])
+    blocks = min(rng.pick([16, 64, 128, 200, 400, 1024]), limits.longest // (channels * block))
+    return [rng.pick(RATES), channels, rng.pick(BUFFERS), block, blocks, volume(rng, limits)]
+
+
 def clock(rng):
     unit = rng.below(3)
     fastest, slowest = [(1, 60000), (1_000_000, 1), (60_000_000, 1)][unit]
@@ -230,7 +237,22 @@ def orders(rng, scene, limits):
     return made
 
 
-def scene(rng, limits=Limits()):
+def short_orders(rng, scene, limits):
+    """Often as many as there may be: in one block after the other, in any
+    blocks, or in one; of all kinds, or of one."""
+    blocks, every = scene.head[0][4], targets(scene)
+    lines = rng.pick([0, 1, 8, 32, 128, 128, 128])
+    kind = rng.pick(every)[0]
+    named = every if rng.chance(1, 2) else [target for target in every if target[0] == kind]
+    spread = rng.pick(["each", "any", "one"])
+    made = []
+    for line in range(lines):
+        places = {"each": line * max(1, blocks // lines) % blocks, "any": rng.below(blocks), "one": blocks // 2}
+        made.append(order(rng, scene, limits, places[spread], *rng.pick(named)))
+    return made
+
+
+def scene(rng, limits=Limits(), head=head, orders=orders):
     made = Scene(head=[head(rng, limits)])
     tables = made.tables
     tables["clocks"] = [clock(rng) for _ in range(count(rng, limits.lines["clocks"]))]
