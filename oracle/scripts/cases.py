@@ -4,6 +4,7 @@
     cases.py scenes SEED COUNT          accepted scenes
     cases.py long SEED COUNT            the same for the library alone, up to 65,536 samples long
     cases.py short SEED COUNT           the same in blocks of few frames, often with many orders
+    cases.py fades SEED COUNT           the same of few tracks, whose levels move in chunks of few frames
     cases.py damaged SEED COUNT         input that is refused, of every kind
     cases.py pairs SEED COUNT           two cases for each pair
     cases.py control KIND SEED COUNT    two cases for each control pair
@@ -57,8 +58,8 @@ def of_scenes(seed, count):
         yield of_scene(scenes.from_seed(seed, n), n % 2 == 1)
 
 
-def of_long_scenes(seed, count, *parts):
-    limits = scenes.Limits(longest=65536)
+def of_long_scenes(seed, count, *parts, share=1):
+    limits = scenes.Limits(share=share, longest=65536)
     for n in range(count):
         yield of_scene(scenes.scene(Random(seed, n), limits, *parts), True)
 
@@ -82,6 +83,8 @@ def asked(words):
             return of_long_scenes(int(seed), int(count))
         case ["short", seed, count]:
             return of_long_scenes(int(seed), int(count), scenes.short_head, scenes.short_orders)
+        case ["fades", seed, count]:
+            return of_long_scenes(int(seed), int(count), scenes.fading_head, scenes.fading_orders, share=16)
         case ["damaged", seed, count]:
             return of_damaged(int(seed), int(count))
         case ["pairs", seed, count]:

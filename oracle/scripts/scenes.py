@@ -58,6 +58,13 @@ def short_head(rng, limits):
     return [rng.pick(RATES), channels, rng.pick(BUFFERS), block, blocks, volume(rng, limits)]
 
 
+def fading_head(rng, limits):
+    """Chunks of few frames, so that what a chunk costs beside them counts."""
+    channels, block = rng.pick([1, 2, 2, 3, 7, 8]), rng.pick([8, 64, 128, 256, 512])
+    blocks = max(1, min(rng.pick([2, 4, 8, 16]), limits.longest // (channels * block)))
+    return [rng.pick(RATES), channels, rng.pick([1, 1, 1, 2, 3, 4]), block, blocks, 0]
+
+
 def clock(rng):
     unit = rng.below(3)
     fastest, slowest = [(1, 60000), (1_000_000, 1), (60_000_000, 1)][unit]
@@ -249,6 +256,16 @@ def short_orders(rng, scene, limits):
     for line in range(lines):
         places = {"each": line * max(1, blocks // lines) % blocks, "any": rng.below(blocks), "one": blocks // 2}
         made.append(order(rng, scene, limits, places[spread], *rng.pick(named)))
+    return made
+
+
+def fading_orders(rng, scene, limits):
+    """Changes that take long, from the first block on: no chunk stands still."""
+    every, made = targets(scene), []
+    for _ in range(rng.pick([1, 1, 2, 4, 8])):
+        kind, index = rng.pick(every)
+        level = 0 if kind > 3 else rng.pick([-20000, -3000, 3000])
+        made.append([0, kind, index, level, 0, 0, 0, rng.pick([10, 1000, 3_600_000]), *rng.pick([(0, 0), (1, 2), (3, 3)])])
     return made
 
 
