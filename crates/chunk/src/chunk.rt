@@ -4,7 +4,7 @@ ghost use mathlib.Core.Path.{_≡_};
 ghost use Prim.Native.Nat.{_≤_, _<_};
 ghost use Rattle.limits.specs.Limits.{chunkFramesMost};
 ghost use Rattle.gain_table.specs.GainTable.{IsGainTable};
-ghost use Rattle.chunk.specs.Chunk.{amountAt, isSteady, steadyAmplitude, withFactors, partsOf, LevelInRange};
+ghost use Rattle.chunk.specs.Chunk.{amountAt, levelAmplitude, isSteady, steadyAmplitude, withFactors, partsOf, LevelInRange};
 use decibels::Amplitude;
 use decibels::Decibels;
 use gain_table::GainTable;
@@ -79,6 +79,25 @@ impl Level {
     {
         let now = self.now;
         now.as_amplitude_in(table)
+    }
+
+    // The amplitude of frame i alone.
+    pub fn amplitude_at(
+        self,
+        i: usize,
+        frames: usize,
+        parts: &Parts,
+        table: &GainTable,
+    ) -> Amplitude
+        requires { ⌜ IsGainTable (now table) ⌝ }
+        requires { ⌜ LevelInRange self ⌝ }
+        requires { ⌜ (i < frames) × (frames ≤ chunkFramesMost) ⌝ }
+        requires { ⌜ now parts ≡ partsOf frames ⌝ }
+        ensures { λ r. ⌜ r ≡ levelAmplitude self (amountAt i frames) ⌝ }
+    {
+        let before = self.before;
+        let after = self.now;
+        level_amplitudes::amplitude_at(before, after, parts, i, table)
     }
 
     // The amplitudes of a chunk's frames.

@@ -3,4 +3,5 @@ mod runs;
 
 pub use runs::Factors;
 pub use runs::Parts;
+pub use runs::amplitude_at;
 pub use runs::amplitudes;

@@ -8,10 +8,11 @@ ghost use lib.Dec.{T};
 ghost use lib.Ieee.{binary32};
 ghost use Rattle.limits.specs.Limits.{chunkFramesMost};
 ghost use Rattle.gain_table.specs.GainTable.{IsGainTable};
-ghost use Rattle.decibels.specs.Decibels.{admitted};
+ghost use Rattle.decibels.specs.Decibels.{amplitude, admitted};
 ghost use Rattle.decibels.specs.Segment.{IsSegment, contains};
 ghost use Rattle.laws.specs.Interpolate.{interpolate};
 ghost use Rattle.level_amplitudes.specs.Amplitudes.{valueAt, withAmplitudes, withRun, Monotone};
+use decibels::Amplitude;
 use decibels::Decibels;
 use decibels::Segment;
 use decibels::segment_of;
@@ -66,6 +67,23 @@ fn set_inside(
         factors[i] = amplitude.0;
         i += 1;
     }
+}
+
+// The amplitude of frame i alone.
+pub fn amplitude_at(
+    before: Decibels,
+    after: Decibels,
+    parts: &Parts,
+    i: usize,
+    table: &GainTable,
+) -> Amplitude
+    requires { ⌜ IsGainTable (now table) ⌝ }
+    requires { ⌜ i < chunkFramesMost ⌝ }
+    requires { ⌜ T (admitted (valueAt before after (now parts) i)) ⌝ }
+    ensures { λ r. ⌜ r .0 ≡ amplitude (valueAt before after (now (parts .entry)) i) ⌝ }
+{
+    let value = value_by(before, after, parts[i]);
+    value.as_amplitude_in(table)
 }
 
 // The same wherever they lie.

@@ -20,6 +20,7 @@ use gain_table::GainTable;
 use level_amplitudes::Parts;
 use limits::CHUNK_FRAMES;
 use limits::SEND_LINES;
+use track_volume::FEW;
 
 // The inputs of all send tracks stand in one buffer, each in its own part, which has room for the
 // longest chunk.
@@ -53,6 +54,41 @@ pub fn clear_sends(sends: &mut [f32], count: usize, frames: usize)
     }
 }
 
+// `apply_level` by an array of factors.
+fn apply_factors(out: &mut [f32], level: Level, frames: usize, parts: &Parts, table: &GainTable)
+    requires { ⌜ IsGainTable (now table) ⌝ }
+    requires { ⌜ (frames ≤ chunkFramesMost) × (2 * frames ≤ length (now out)) ⌝ }
+    requires { ⌜ LevelInRange level ⌝ }
+    requires { ⌜ now parts ≡ partsOf frames ⌝ }
+    ensures { λ _. ⌜ now (out .exit) ≡ withFrames (scratch 0 frames) (levelScaled level frames) (now (out .entry)) ⌝ }
+{
+    let mut factors = [0.0f32; CHUNK_FRAMES];
+    level.amplitudes(frames, parts, table, &mut factors);
+    let mut i = 0;
+    while i < frames {
+        let frame = frame_at(out, 0, frames, i).scaled(Amplitude(factors[i]));
+        put_frame(out, 0, frames, i, frame);
+        i += 1;
+    }
+}
+
+// The same in a chunk of few frames, without the array.
+fn apply_each(out: &mut [f32], level: Level, frames: usize, parts: &Parts, table: &GainTable)
+    requires { ⌜ IsGainTable (now table) ⌝ }
+    requires { ⌜ (frames ≤ chunkFramesMost) × (2 * frames ≤ length (now out)) ⌝ }
+    requires { ⌜ LevelInRange level ⌝ }
+    requires { ⌜ now parts ≡ partsOf frames ⌝ }
+    ensures { λ _. ⌜ now (out .exit) ≡ withFrames (scratch 0 frames) (levelScaled level frames) (now (out .entry)) ⌝ }
+{
+    let mut i = 0;
+    while i < frames {
+        let factor = level.amplitude_at(i, frames, parts, table);
+        let frame = frame_at(out, 0, frames, i).scaled(factor);
+        put_frame(out, 0, frames, i, frame);
+        i += 1;
+    }
+}
+
 // Scales each frame by one level.
 pub fn apply_level(out: &mut [f32], level: Level, frames: usize, parts: &Parts, table: &GainTable)
     requires { ⌜ IsGainTable (now table) ⌝ }
@@ -66,14 +102,11 @@ pub fn apply_level(out: &mut [f32], level: Level, frames: usize, parts: &Parts, 
         scale(out, frames, factor);
         return;
     }
-    let mut factors = [0.0f32; CHUNK_FRAMES];
-    level.amplitudes(frames, parts, table, &mut factors);
-    let mut i = 0;
-    while i < frames {
-        let frame = frame_at(out, 0, frames, i).scaled(Amplitude(factors[i]));
-        put_frame(out, 0, frames, i, frame);
-        i += 1;
+    if frames < FEW {
+        apply_each(out, level, frames, parts, table);
+        return;
     }
+    apply_factors(out, level, frames, parts, table);
 }
 
 // `add_send` for a level that stands still.

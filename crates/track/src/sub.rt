@@ -34,6 +34,7 @@ use limits::CHUNK_FRAMES;
 use links::Links;
 use links::last_line;
 use links::line_before;
+use track_volume::FEW;
 
 // What a chunk's frames are mixed in.
 pub const SCRATCH: usize = 2 * CHUNK_FRAMES;
@@ -256,6 +257,40 @@ pub fn process<'a>(
         return;
     }
     if !track.advancing {
+        return;
+    }
+    // Of few frames the sum is short: a long one would cost more to clear than they do.
+    if places[FRAMES] < FEW {
+        let mut out = [0.0f32; 2 * FEW];
+        gather(
+            places,
+            levels,
+            amplitudes,
+            sub_tracks,
+            sounds,
+            routes,
+            parts,
+            table,
+            samples,
+            visitor,
+            line,
+            depth - 1,
+            track,
+            &mut out,
+            sends,
+        );
+        hand_on(
+            to,
+            sends,
+            &out,
+            places,
+            levels,
+            amplitudes,
+            samples,
+            visitor,
+            routes,
+            line,
+        );
         return;
     }
     let mut out = [0.0f32; SCRATCH];

@@ -4,4 +4,5 @@ mod sounds;
 mod volume;
 
 pub use sounds::add_last_sounds;
+pub use volume::FEW;
 pub use volume::apply_placing_and_volume;

@@ -13,6 +13,7 @@ ghost use Rattle.spatial.specs.Spatial.{PlacingIn};
 ghost use Rattle.chunk.specs.Chunk.{isSteady, partsOf, LevelInRange};
 ghost use Rattle.sound.specs.Part.{addedPart};
 ghost use Rattle.track_volume.specs.TrackVolume.{trackScaled, trackPlacedScaled};
+use crate::volume::FEW;
 use crate::volume::apply_placing_and_volume;
 use chunk::ChunkTrack;
 use decibels::Amplitude;
@@ -119,10 +120,13 @@ fn is_plain(placing: Placing) -> bool
     }
 }
 
-// Whether both parts have so many frames.
+// Whether both parts have so many frames, and those are not few: a pass of its own is cheap then.
 fn both_have(first: &[f32], second: &[f32], frames: usize) -> bool
     ensures { λ r. ⌜ (r ≡ true → (frames ≤ length (now (first .entry)) / 2) × (frames ≤ length (now (second .entry)) / 2)) ⌝ }
 {
+    if frames < FEW {
+        return false;
+    }
     if frames <= first.len() / 2 {
         if frames <= second.len() / 2 {
             return true;

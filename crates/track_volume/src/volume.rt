@@ -24,6 +24,9 @@ use level_amplitudes::Parts;
 use limits::CHUNK_FRAMES;
 use spatial::Placing;
 
+// Chunks of fewer frames have no arrays of factors.
+pub const FEW: usize = 8;
+
 // `apply_volume` for a fade that stands still.
 fn apply_moving_volume(
     out: &mut [f32],
@@ -74,6 +77,52 @@ fn apply_moving(out: &mut [f32], track: ChunkTrack, frames: usize, parts: &Parts
     }
 }
 
+// The same in a chunk of few frames, where an array of factors would cost more than they do.
+fn apply_each(out: &mut [f32], track: ChunkTrack, frames: usize, parts: &Parts, table: &GainTable)
+    requires { ⌜ IsGainTable (now table) ⌝ }
+    requires { ⌜ (frames ≤ chunkFramesMost) × (2 * frames ≤ length (now out)) ⌝ }
+    requires { ⌜ LevelInRange (track .volume) × LevelInRange (track .fade) ⌝ }
+    requires { ⌜ now parts ≡ partsOf frames ⌝ }
+    ensures { λ _. ⌜ now (out .exit) ≡ withFrames (scratch 0 frames) (trackScaled track frames) (now (out .entry)) ⌝ }
+{
+    let volume = track.volume;
+    let fade = track.fade;
+    let mut i = 0;
+    while i < frames {
+        let a = volume.amplitude_at(i, frames, parts, table);
+        let b = fade.amplitude_at(i, frames, parts, table);
+        let frame = frame_at(out, 0, frames, i).scaled(Amplitude(a.0 * b.0));
+        put_frame(out, 0, frames, i, frame);
+        i += 1;
+    }
+}
+
+// Volume times fade scales each frame where one of them moves.
+fn apply_moving_level(
+    out: &mut [f32],
+    track: ChunkTrack,
+    frames: usize,
+    parts: &Parts,
+    table: &GainTable,
+)
+    requires { ⌜ IsGainTable (now table) ⌝ }
+    requires { ⌜ (frames ≤ chunkFramesMost) × (2 * frames ≤ length (now out)) ⌝ }
+    requires { ⌜ LevelInRange (track .volume) × LevelInRange (track .fade) ⌝ }
+    requires { ⌜ now parts ≡ partsOf frames ⌝ }
+    ensures { λ _. ⌜ now (out .exit) ≡ withFrames (scratch 0 frames) (trackScaled track frames) (now (out .entry)) ⌝ }
+{
+    let fade = track.fade;
+    if frames < FEW {
+        apply_each(out, track, frames, parts, table);
+        return;
+    }
+    if fade.is_steady() {
+        apply_moving_volume(out, track, frames, parts, table);
+        return;
+    }
+    apply_moving(out, track, frames, parts, table);
+}
+
 // Volume times fade scales each frame.
 fn apply_volume(out: &mut [f32], track: ChunkTrack, frames: usize, parts: &Parts, table: &GainTable)
     requires { ⌜ IsGainTable (now table) ⌝ }
@@ -91,10 +140,8 @@ fn apply_volume(out: &mut [f32], track: ChunkTrack, frames: usize, parts: &Parts
             scale(out, frames, Amplitude(a.0 * b.0));
             return;
         }
-        apply_moving_volume(out, track, frames, parts, table);
-        return;
     }
-    apply_moving(out, track, frames, parts, table);
+    apply_moving_level(out, track, frames, parts, table);
 }
 
 // Scales each frame by one factor, and what that gives by another.

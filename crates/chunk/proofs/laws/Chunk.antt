@@ -110,6 +110,11 @@ module _ (n i : ℕ) (parts : List Float) (P : parts ≡ partsOf n) (short : n �
   unfolding amplitudeAt valueAt levelAmplitude interpolated partAt
   parts-amplitude l x = ap (λ (part : Float). amplitude (interpolate binary32 (l .before .0) (l .now .0) part)) (parts-at n i P short h)
 
+  -- as the code has it
+  pub amplitude-is : (l : Level) {x : Amplitude} → x .0 ≡ amplitude (valueAt (l .before) (l .now) parts i) → x ≡ levelAmplitude l (amountAt i n)
+  unfolding levelAmplitude valueAt interpolated partAt
+  amplitude-is l e = ap (λ (y : Float). record { 0 = y }) (e ∙ ap (λ (part : Float). amplitude (interpolate binary32 (l .before .0) (l .now .0) part)) (parts-at n i P short h))
+
 -- ---- a level never turns within a chunk
 
 module _ (n : ℕ) (parts : List Float) (P : parts ≡ partsOf n) (short : n ≤ chunkFramesMost) where

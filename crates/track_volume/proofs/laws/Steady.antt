@@ -1,6 +1,6 @@
 -- Volume times fade: what stands still scales all frames of a chunk by one amplitude, and what moves scales each by the factor that was made for it.
 -- Assumes nothing.
-use mathlib.Core.Path.{_≡_, sym, ap, ap₂, _∙_}
+use mathlib.Core.Path.{_≡_, refl, sym, ap, ap₂, _∙_}
 use mathlib.Core.Bool.{true}
 use mathlib.Core.List.{List}
 use Prim.Native.Nat.{ℕ, _≤_, _<_}
@@ -36,6 +36,14 @@ scaledEachBy factors by i a = scaled a (product (factorOf factors i) by)
 -- by two of their own
 abbrev pub scaledTwice : List Float → List Float → ℕ → Frame → Frame
 scaledTwice factors others i a = scaled a (product (factorOf factors i) (factorOf others i))
+
+-- by the amplitudes of volume and fade
+abbrev pub scaledAlong : Level → Level → ℕ → ℕ → Frame → Frame
+scaledAlong volume fade n i a = scaled a (product (levelAmplitude volume (amountAt i n)) (levelAmplitude fade (amountAt i n)))
+
+pub along-track : (t : ChunkTrack) (n : ℕ) (l : List Float) → withFrames (scratch 0 n) (scaledAlong (t .volume) (t .fade) n) l ≡ withFrames (scratch 0 n) (trackScaled t n) l
+unfolding trackScaled trackAmplitude
+along-track t n l = refl
 
 -- ---- levels that stand still
 

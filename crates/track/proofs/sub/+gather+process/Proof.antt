@@ -51,6 +51,13 @@ scratchPlaces = 2 * chunkFramesMost
 abbrev silent : List Float
 silent = replicate scratchPlaces zeroSample
 
+-- and those of few frames
+abbrev fewPlaces : ℕ
+fewPlaces = 2 * 8
+
+abbrev silentFew : List Float
+silentFew = replicate fewPlaces zeroSample
+
 abbrev Inv : Chunk → Recordings → List ℕ → ℕ → ℕ → List Float → List Float → List Float → List Float → ℕ → Type 0
 Inv chunk samples links line d out₀ sends₀ out sends j =
     (length out ≡ length out₀)
@@ -352,6 +359,16 @@ process-returns-2 t c =
     let stops = ap (λ (t : ChunkTrack). t .advancing) (sym (c .before .before .before .track-at .ensures)) ∙ not-true _ (c .if2 .taken) in
     (track-stopped (args .depth) d chunk samples line (args .to .now) deep (start .pre .1 .1 .1 .1 .1 .1 .1 .1 .0) stops, sends-stopped (args .depth) d chunk samples line (args .sends .now) deep stops)
 
+process-element-copy-out-if3 : (t : ℕ) → process-lts.Need-element-copy-out-if3 (
+  track-at-reads.Asked,
+  track-at-reads.Learnt,
+  gather-below t,
+  gather.Post,
+  hand-on-reads.Asked,
+  hand-on-reads.Learnt,
+) (process-at t) process.Post
+process-element-copy-out-if3 t c = search needs
+
 process-sub-gather : (t : ℕ) → process-lts.Need-sub-gather (
   track-at-reads.Asked,
   track-at-reads.Learnt,
@@ -360,7 +377,7 @@ process-sub-gather : (t : ℕ) → process-lts.Need-sub-gather (
   hand-on-reads.Asked,
   hand-on-reads.Learnt,
 ) (process-at t) process.Post
-process-sub-gather t c = omega (arith, c .before .before .if1 .left)
+process-sub-gather t c = omega (arith, c .before .before .before .before .if1 .left)
 
 process-slice-aggregate-gather : (t : ℕ) → process-lts.Need-slice-aggregate-gather (
   track-at-reads.Asked,
@@ -382,12 +399,12 @@ process-gather-requires : (t : ℕ) → process-lts.Need-gather-requires (
 ) (process-at t) process.Post
 unfolding ofBits ofInt
 process-gather-requires t c κs =
-    let start = c .before .before .before .before .before .before .before .before .before .before in
+    let start = c .before .before .before .before .before .before .before .before .before .before .before .before in
     let args = start .args in
     let chunk = chunkFrom (args .places .now) (args .levels .now) (args .amplitudes .now) in
     let pre = start .pre .1 in
     let ok = pre .1 .0 in
-    (omega (arith, start .pre .0, c .before .before .before .before .if1 .left), (pre .0, (ok, (pre .1 .1 .0, (pre .1 .1 .1 .0, (start .pre .1 .1 .1 .1 .1 .0, (omega (arith, ok .short), (start .pre .1 .1 .1 .1 .1 .1 .1 .0, (zero-silent scratchPlaces (chunk .frames) (omega (arith, ok .short)), (c .before .before .before .before .before .track-at .ensures, start .pre .1 .1 .1 .1 .1 .1 .1 .1 .1))))))))))
+    (omega (arith, start .pre .0, c .before .before .before .before .before .before .if1 .left), (pre .0, (ok, (pre .1 .1 .0, (pre .1 .1 .1 .0, (start .pre .1 .1 .1 .1 .1 .0, (omega (arith, c .before .before .if3 .taken), (start .pre .1 .1 .1 .1 .1 .1 .1 .0, (zero-silent fewPlaces (chunk .frames) (omega (arith, c .before .before .if3 .taken)), (c .before .before .before .before .before .before .before .track-at .ensures, start .pre .1 .1 .1 .1 .1 .1 .1 .1 .1))))))))))
 
 process-slice-aggregate-hand-on : (t : ℕ) → process-lts.Need-slice-aggregate-hand-on (
   track-at-reads.Asked,
@@ -409,7 +426,7 @@ process-hand-on-requires : (t : ℕ) → process-lts.Need-hand-on-requires (
 ) (process-at t) process.Post
 unfolding ofBits ofInt
 process-hand-on-requires t c κs =
-    let start = c .before .before .before .before .before .before .before .before .before .before .before .before .before .before .before .before .before in
+    let start = c .before .before .before .before .before .before .before .before .before .before .before .before .before .before .before .before .before .before .before in
     let args = start .args in
     let chunk = chunkFrom (args .places .now) (args .levels .now) (args .amplitudes .now) in
     let samples = recordings (args .samples .now) (args .visitor .now) in
@@ -419,10 +436,10 @@ process-hand-on-requires t c κs =
     let ok = start .pre .1 .1 .0 in
     let d = args .depth - 1 in
     let made = c .before .before .before .before .before .before .gather .ensures in
-    let track = c .before .before .before .before .before .before .before .before .before .before .before .before .track-at .result in
-    let summed = kept L (sumSet d chunk samples line) n silent refl in
-    let scaled = kept L (trackPlacedScaled track n) n (withFrames L (sumSet d chunk samples line) silent) (made .0) in
-    let long : 2 * n ≤ length (c .before .before .before .before .before .before .gather .last .1 .1 .1 .1 .1 .1 .1 .1 .1 .1 .1 .1 .1 .0) = omega (arith, summed, scaled, ok .short) in
+    let track = c .before .before .before .before .before .before .before .before .before .before .before .before .before .before .track-at .result in
+    let summed = kept L (sumSet d chunk samples line) n silentFew refl in
+    let scaled = kept L (trackPlacedScaled track n) n (withFrames L (sumSet d chunk samples line) silentFew) (made .0) in
+    let long : 2 * n ≤ length (c .before .before .before .before .before .before .gather .last .1 .1 .1 .1 .1 .1 .1 .1 .1 .1 .1 .1 .1 .0) = omega (arith, summed, scaled, c .before .before .before .before .before .before .before .before .before .if3 .taken) in
     let room = ap length (made .1) ∙ onSends-length n (withSubSends d chunk samples line) (args .sends .now) ∙ start .pre .1 .1 .1 .1 .1 .1 .1 .0 in
     (ok, (start .pre .1 .1 .1 .0 .2, (start .pre .1 .1 .1 .1 .1 .1 .0, (long, (room, omega (arith, start .pre .1 .1 .1 .1 .1 .0 .1, ok .tracks))))))
 
@@ -456,7 +473,7 @@ process-returns-3 : (t : ℕ) → process-lts.Need-returns-3 (
 ) (process-at t) process.Post
 unfolding ofBits ofInt
 process-returns-3 t c =
-    let start = c .before .before .before .before .before .before .before .before .before .before .before .before .before .before .before .before .before .before .before .before .before .before in
+    let start = c .before .before .before .before .before .before .before .before .before .before .before .before .before .before .before .before .before .before .before .before .before .before .before .before in
     let args = start .args in
     let chunk = chunkFrom (args .places .now) (args .levels .now) (args .amplitudes .now) in
     let samples = recordings (args .samples .now) (args .visitor .now) in
@@ -465,15 +482,139 @@ process-returns-3 t c =
     let line = args .line in
     let ok = start .pre .1 .1 .0 in
     let d = args .depth - 1 in
-    let deep : args .depth ≡ suc d = omega (arith, c .before .before .before .before .before .before .before .before .before .before .before .before .before .before .before .before .if1 .left) in
-    let read = c .before .before .before .before .before .before .before .before .before .before .before .before .before .before .before .before .before .track-at .ensures in
-    let moves = ap (λ (t : ChunkTrack). t .advancing) (sym read) ∙ not-false _ (c .before .before .before .before .before .before .before .before .before .before .before .before .before .before .if2 .left) in
+    let deep : args .depth ≡ suc d = omega (arith, c .before .before .before .before .before .before .before .before .before .before .before .before .before .before .before .before .before .before .if1 .left) in
+    let read = c .before .before .before .before .before .before .before .before .before .before .before .before .before .before .before .before .before .before .before .track-at .ensures in
+    let moves = ap (λ (t : ChunkTrack). t .advancing) (sym read) ∙ not-false _ (c .before .before .before .before .before .before .before .before .before .before .before .before .before .before .before .before .if2 .left) in
     let made = c .before .before .before .before .before .before .before .before .before .before .before .gather .ensures in
     let out = c .before .before .before .before .before .before .before .before .before .before .before .gather .last .1 .1 .1 .1 .1 .1 .1 .1 .1 .1 .1 .1 .1 .0 in
+    let sum = withFrames L (sumSet d chunk samples line) silentFew in
+    let scaled = made .0 ∙ ap (λ (t : ChunkTrack). withFrames L (trackPlacedScaled t n) sum) read in
+    let has = track-mixed (args .depth) d chunk samples line deep silentFew (omega (arith, c .before .before .before .before .before .before .before .before .before .before .before .before .before .before .if3 .taken)) moves refl scaled in
+    let handed = c .before .before .before .before .hand-on .ensures in
+    (track-added (args .depth) chunk samples line (args .to .now) out has (handed .0), sends-mixed (args .depth) d chunk samples line (args .sends .now) deep out (ok .short) (start .pre .1 .1 .1 .1 .1 .1 .1 .0) moves has (made .1) (handed .1))
+
+process-sub-gather-2 : (t : ℕ) → process-lts.Need-sub-gather-2 (
+  track-at-reads.Asked,
+  track-at-reads.Learnt,
+  gather-below t,
+  gather.Post,
+  hand-on-reads.Asked,
+  hand-on-reads.Learnt,
+) (process-at t) process.Post
+process-sub-gather-2 t c = omega (arith, c .before .before .before .before .if1 .left)
+
+process-slice-aggregate-gather-2 : (t : ℕ) → process-lts.Need-slice-aggregate-gather-2 (
+  track-at-reads.Asked,
+  track-at-reads.Learnt,
+  gather-below t,
+  gather.Post,
+  hand-on-reads.Asked,
+  hand-on-reads.Learnt,
+) (process-at t) process.Post
+process-slice-aggregate-gather-2 t c = search needs
+
+process-gather-requires-2 : (t : ℕ) → process-lts.Need-gather-requires-2 (
+  track-at-reads.Asked,
+  track-at-reads.Learnt,
+  gather-below t,
+  gather.Post,
+  hand-on-reads.Asked,
+  hand-on-reads.Learnt,
+) (process-at t) process.Post
+unfolding ofBits ofInt
+process-gather-requires-2 t c κs =
+    let start = c .before .before .before .before .before .before .before .before .before .before .before .before in
+    let args = start .args in
+    let chunk = chunkFrom (args .places .now) (args .levels .now) (args .amplitudes .now) in
+    let pre = start .pre .1 in
+    let ok = pre .1 .0 in
+    (omega (arith, start .pre .0, c .before .before .before .before .before .before .if1 .left), (pre .0, (ok, (pre .1 .1 .0, (pre .1 .1 .1 .0, (start .pre .1 .1 .1 .1 .1 .0, (omega (arith, ok .short), (start .pre .1 .1 .1 .1 .1 .1 .1 .0, (zero-silent scratchPlaces (chunk .frames) (omega (arith, ok .short)), (c .before .before .before .before .before .before .before .track-at .ensures, start .pre .1 .1 .1 .1 .1 .1 .1 .1 .1))))))))))
+
+process-slice-aggregate-hand-on-2 : (t : ℕ) → process-lts.Need-slice-aggregate-hand-on-2 (
+  track-at-reads.Asked,
+  track-at-reads.Learnt,
+  gather-below t,
+  gather.Post,
+  hand-on-reads.Asked,
+  hand-on-reads.Learnt,
+) (process-at t) process.Post
+process-slice-aggregate-hand-on-2 t c = search needs
+
+process-hand-on-requires-2 : (t : ℕ) → process-lts.Need-hand-on-requires-2 (
+  track-at-reads.Asked,
+  track-at-reads.Learnt,
+  gather-below t,
+  gather.Post,
+  hand-on-reads.Asked,
+  hand-on-reads.Learnt,
+) (process-at t) process.Post
+unfolding ofBits ofInt
+process-hand-on-requires-2 t c κs =
+    let start = c .before .before .before .before .before .before .before .before .before .before .before .before .before .before .before .before .before .before .before in
+    let args = start .args in
+    let chunk = chunkFrom (args .places .now) (args .levels .now) (args .amplitudes .now) in
+    let samples = recordings (args .samples .now) (args .visitor .now) in
+    let n = chunk .frames in
+    let L = scratch 0 n in
+    let line = args .line in
+    let ok = start .pre .1 .1 .0 in
+    let d = args .depth - 1 in
+    let made = c .before .before .before .before .before .before .gather2 .ensures in
+    let track = c .before .before .before .before .before .before .before .before .before .before .before .before .before .before .track-at .result in
+    let summed = kept L (sumSet d chunk samples line) n silent refl in
+    let scaled = kept L (trackPlacedScaled track n) n (withFrames L (sumSet d chunk samples line) silent) (made .0) in
+    let long : 2 * n ≤ length (c .before .before .before .before .before .before .gather2 .last .1 .1 .1 .1 .1 .1 .1 .1 .1 .1 .1 .1 .1 .0) = omega (arith, summed, scaled, ok .short) in
+    let room = ap length (made .1) ∙ onSends-length n (withSubSends d chunk samples line) (args .sends .now) ∙ start .pre .1 .1 .1 .1 .1 .1 .1 .0 in
+    (ok, (start .pre .1 .1 .1 .0 .2, (start .pre .1 .1 .1 .1 .1 .1 .0, (long, (room, omega (arith, start .pre .1 .1 .1 .1 .1 .0 .1, ok .tracks))))))
+
+process-same-length-3 : (t : ℕ) → process-lts.Need-same-length-3 (
+  track-at-reads.Asked,
+  track-at-reads.Learnt,
+  gather-below t,
+  gather.Post,
+  hand-on-reads.Asked,
+  hand-on-reads.Learnt,
+) (process-at t) process.Post
+process-same-length-3 t c = search needs
+
+process-same-length-4 : (t : ℕ) → process-lts.Need-same-length-4 (
+  track-at-reads.Asked,
+  track-at-reads.Learnt,
+  gather-below t,
+  gather.Post,
+  hand-on-reads.Asked,
+  hand-on-reads.Learnt,
+) (process-at t) process.Post
+process-same-length-4 t c = search needs
+
+process-returns-4 : (t : ℕ) → process-lts.Need-returns-4 (
+  track-at-reads.Asked,
+  track-at-reads.Learnt,
+  gather-below t,
+  gather.Post,
+  hand-on-reads.Asked,
+  hand-on-reads.Learnt,
+) (process-at t) process.Post
+unfolding ofBits ofInt
+process-returns-4 t c =
+    let start = c .before .before .before .before .before .before .before .before .before .before .before .before .before .before .before .before .before .before .before .before .before .before .before .before in
+    let args = start .args in
+    let chunk = chunkFrom (args .places .now) (args .levels .now) (args .amplitudes .now) in
+    let samples = recordings (args .samples .now) (args .visitor .now) in
+    let n = chunk .frames in
+    let L = scratch 0 n in
+    let line = args .line in
+    let ok = start .pre .1 .1 .0 in
+    let d = args .depth - 1 in
+    let deep : args .depth ≡ suc d = omega (arith, c .before .before .before .before .before .before .before .before .before .before .before .before .before .before .before .before .before .before .if1 .left) in
+    let read = c .before .before .before .before .before .before .before .before .before .before .before .before .before .before .before .before .before .before .before .track-at .ensures in
+    let moves = ap (λ (t : ChunkTrack). t .advancing) (sym read) ∙ not-false _ (c .before .before .before .before .before .before .before .before .before .before .before .before .before .before .before .before .if2 .left) in
+    let made = c .before .before .before .before .before .before .before .before .before .before .before .gather2 .ensures in
+    let out = c .before .before .before .before .before .before .before .before .before .before .before .gather2 .last .1 .1 .1 .1 .1 .1 .1 .1 .1 .1 .1 .1 .1 .0 in
     let sum = withFrames L (sumSet d chunk samples line) silent in
     let scaled = made .0 ∙ ap (λ (t : ChunkTrack). withFrames L (trackPlacedScaled t n) sum) read in
     let has = track-mixed (args .depth) d chunk samples line deep silent (omega (arith, ok .short)) moves refl scaled in
-    let handed = c .before .before .before .before .hand-on .ensures in
+    let handed = c .before .before .before .before .hand-on2 .ensures in
     (track-added (args .depth) chunk samples line (args .to .now) out has (handed .0), sends-mixed (args .depth) d chunk samples line (args .sends .now) deep out (ok .short) (start .pre .1 .1 .1 .1 .1 .1 .1 .0) moves has (made .1) (handed .1))
 
 pub +gather+process-spec : {M : Type 1} → statement M
@@ -515,6 +656,7 @@ pub +gather+process-spec : {M : Type 1} → statement M
     (process-track-at-requires t)
     (process-returns t)
     (process-returns-2 t)
+    (process-element-copy-out-if3 t)
     (process-sub-gather t)
     (process-slice-aggregate-gather t)
     (process-gather-requires t)
@@ -523,3 +665,11 @@ pub +gather+process-spec : {M : Type 1} → statement M
     (process-same-length t)
     (process-same-length-2 t)
     (process-returns-3 t)
+    (process-sub-gather-2 t)
+    (process-slice-aggregate-gather-2 t)
+    (process-gather-requires-2 t)
+    (process-slice-aggregate-hand-on-2 t)
+    (process-hand-on-requires-2 t)
+    (process-same-length-3 t)
+    (process-same-length-4 t)
+    (process-returns-4 t)

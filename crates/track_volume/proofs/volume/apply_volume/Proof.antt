@@ -1,4 +1,4 @@
--- Three ways to scale by volume times fade, by whether each stands still: each comes to `trackScaled` (`laws`, Steady).
+-- Two ways to scale by volume times fade, by whether both stand still: each comes to `trackScaled` (`laws`, Steady).
 use mathlib.Core.Path.{sym, _∙_}
 use borrow.Author.Needs.{needs}
 use Rattle.track_volume.proofs.laws.Steady.{track-steady}
@@ -32,25 +32,14 @@ returns c =
     let ranges = start .pre .1 .1 .0 in
     c .before .before .scale .ensures ∙ track-steady (args .frames) (start .pre .1 .0 .0) (args .track) (args .out .now) volume fade (ranges .0) (ranges .1) (c .before .before .before .before .before .before .before .steady-amplitude .ensures) (c .before .before .before .before .before .before .steady-amplitude2 .ensures)
 
-apply-moving-volume-requires : tie.Need-apply-moving-volume-requires
-apply-moving-volume-requires c κs =
-    let pre = c .before .before .before .before .before .before .before .before .pre in
-    (pre .0, (pre .1 .0, (pre .1 .1 .0, (pre .1 .1 .1, sym (c .before .before .before .before .is-steady .ensures) ∙ c .before .before .before .if1 .taken))))
+apply-moving-level-requires : tie.Need-apply-moving-level-requires
+apply-moving-level-requires c κs = search needs
 
 same-length-2 : tie.Need-same-length-2
 same-length-2 c = search needs
 
 returns-2 : tie.Need-returns-2
 returns-2 c = search needs
-
-apply-moving-requires : tie.Need-apply-moving-requires
-apply-moving-requires c κs = search needs
-
-same-length-3 : tie.Need-same-length-3
-same-length-3 c = search needs
-
-returns-3 : tie.Need-returns-3
-returns-3 c = search needs
 
 pub apply-volume-spec : {M : Type 1} → statement M
 apply-volume-spec =
@@ -63,9 +52,6 @@ apply-volume-spec =
     scale-requires
     same-length
     returns
-    apply-moving-volume-requires
+    apply-moving-level-requires
     same-length-2
-    returns-2
-    apply-moving-requires
-    same-length-3
-    returns-3)
+    returns-2)
