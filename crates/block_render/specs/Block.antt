@@ -12,7 +12,7 @@ use Rattle.laws.specs.Loop.{upto, changed}
 use Rattle.laws.specs.Pieces.{pieces}
 use Rattle.clock.specs.declared.when_to_start.Clocks.{Clocks}
 use Rattle.clock.specs.Clock.{ticksOf}
-use Rattle.clock.specs.WhenToStart.{clocksUpdated, CanMoveAll, absentClock}
+use Rattle.clock.specs.WhenToStart.{clocksUpdated, ClocksLaid, CanMoveAll, absentClock}
 use Rattle.clock.specs.ChunkTime.{chunkTime}
 use Rattle.scene.specs.declared.scene.Head.{Head}
 use Rattle.chunk.specs.declared.chunk.Chunk.{Chunk}
@@ -90,6 +90,7 @@ blockHeard still h clocks a samples = pieces (λ k. chunkHeard still h clocks sa
 
 -- what the code asks
 pub record BlockAsks (still : Bool) (h : Head) (clocks : Clocks) (a : Arrays) (samples : Recordings) (l l' l'' : List ℕ) : Type 0 where
+  pub laid : ClocksLaid clocks
   pub rate : h .rate ≤ rateMost
   pub channels : (1 ≤ h .channels) × (h .channels ≤ channelsMost)
   pub buffer : (1 ≤ h .buffer) × (h .buffer ≤ chunkFramesMost)
@@ -117,6 +118,7 @@ pub record NanosAsk (h : Head) : Type 0 where
 
 -- the clocks can move, chunk by chunk
 pub record ClocksAsk (h : Head) (clocks : Clocks) : Type 0 where
+  pub laid : ClocksLaid clocks
   pub rate : h .rate ≤ rateMost
   pub buffer : (1 ≤ h .buffer) × (h .buffer ≤ chunkFramesMost)
   pub block : h .block ≤ blockFramesMost

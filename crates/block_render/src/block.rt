@@ -11,7 +11,8 @@ ghost use Rattle.recordings.specs.Recordings.{recordings};
 ghost use Rattle.limits.specs.Limits.{clockLines, sendLines, channelsMost, chunkFramesMost};
 ghost use Rattle.rounding.specs.Duration.{InAnHour};
 ghost use Rattle.gain_table.specs.GainTable.{IsGainTable};
-ghost use Rattle.clock.specs.WhenToStart.{clocksUpdated, CanMoveAll};
+ghost use Rattle.clock.specs.WhenToStart.{ClocksLaid};
+ghost use Rattle.clock_store.specs.ClockStore.{clocksFrom, ClocksSized};
 ghost use Rattle.chunk.specs.Chunk.{ChunkOk, partsOf};
 ghost use Rattle.chunk.specs.Flat.{sendCountPlace, chunkFrom};
 ghost use Rattle.frame.specs.Layout.{scratch, withFrames};
@@ -29,6 +30,11 @@ use chunk::FRAMES;
 use chunk::Levels;
 use chunk::Places;
 use clock::Clocks;
+use clock_store::POSITIONS;
+use clock_store::TICKS;
+use clock_store::clocks_at;
+use clock_store::put_clocks;
+use clock_store::update_clocks;
 use gain_table::GainTable;
 use level_amplitudes::Parts;
 use limits::CHUNK_FRAMES;
@@ -37,18 +43,58 @@ use links::Links;
 use scene::Head;
 use track::process_flat;
 
-// Where there is no clock nothing moves, and nothing is copied.
-fn update_clocks(clocks: Clocks, dt: f64) -> Clocks
-    requires { ⌜ CanMoveAll clocks dt ⌝ }
-    ensures { λ r. ⌜ r ≡ clocksUpdated clocks dt ⌝ }
+// What a chunk moves, where anything moves.
+fn move_arrays(
+    places: &mut Places,
+    levels: &mut Levels,
+    amplitudes: &mut Amplitudes,
+    kinds: &mut [usize],
+    counts: &mut [u64],
+    shorts: &mut [u32],
+    values: &mut [f32],
+    times: &mut [f64],
+    still: bool,
+    dt: f64,
+    clocks: usize,
+    ticks: &[u64],
+    positions: &[f64],
+    table: &GainTable,
+)
+    requires { ⌜ IsGainTable (now table) ⌝ }
+    requires { ⌜ TracksThere (now places) ⌝ }
+    requires { ⌜ RoutesThere (now places) ⌝ }
+    requires { ⌜ getD (now places) sendCountPlace 0 ≤ sendLines ⌝ }
+    requires { ⌜ RoutesHeard dt (clocksFrom clocks (now ticks) (now positions)) (now places) (numbers (now kinds) (now counts) (now shorts) (now values) (now times)) ⌝ }
+    requires { ⌜ ArraysSized (arrays (now places) (now levels) (now amplitudes) (numbers (now kinds) (now counts) (now shorts) (now values) (now times))) ⌝ }
+    requires { ⌜ InAnHour dt ⌝ }
+    requires { ⌜ ClocksSized clocks (now ticks) (now positions) ⌝ }
+    ensures { λ _. ⌜ (let a = arrays (now (places .entry)) (now (levels .entry)) (now (amplitudes .entry))
+        (numbers (now (kinds .entry)) (now (counts .entry)) (now (shorts .entry)) (now (values .entry)) (now (times .entry))) in
+        arrays (now (places .exit)) (now (levels .exit)) (now (amplitudes .exit))
+        (numbers (now (kinds .exit)) (now (counts .exit)) (now (shorts .exit)) (now (values .exit)) (now (times .exit)))
+        ≡ cond still a (mixerOn dt (clocksFrom clocks (now (ticks .entry)) (now (positions .entry))) a)) ⌝ }
 {
-    if clocks.count == 0 {
-        return clocks;
+    if still {
+        return;
     }
-    clocks.update(dt)
+    moving_mixer::update(
+        places,
+        levels,
+        amplitudes,
+        kinds,
+        counts,
+        shorts,
+        values,
+        times,
+        dt,
+        clocks,
+        ticks,
+        positions,
+        table,
+    );
 }
 
-// What a chunk moves, where anything moves.
+// The same by clocks that are not numbers yet.
 pub fn move_state(
     places: &mut Places,
     levels: &mut Levels,
@@ -70,7 +116,7 @@ pub fn move_state(
     requires { ⌜ RoutesHeard dt clocks (now places) (numbers (now kinds) (now counts) (now shorts) (now values) (now times)) ⌝ }
     requires { ⌜ ArraysSized (arrays (now places) (now levels) (now amplitudes) (numbers (now kinds) (now counts) (now shorts) (now values) (now times))) ⌝ }
     requires { ⌜ InAnHour dt ⌝ }
-    requires { ⌜ clocks .count ≤ clockLines ⌝ }
+    requires { ⌜ ClocksLaid clocks ⌝ }
     ensures { λ _. ⌜ (let a = arrays (now (places .entry)) (now (levels .entry)) (now (amplitudes .entry))
         (numbers (now (kinds .entry)) (now (counts .entry)) (now (shorts .entry)) (now (values .entry)) (now (times .entry))) in
         arrays (now (places .exit)) (now (levels .exit)) (now (amplitudes .exit))
@@ -80,7 +126,11 @@ pub fn move_state(
     if still {
         return;
     }
-    moving_mixer::update(
+    let count = clocks.count;
+    let mut ticks = [0u64; TICKS];
+    let mut positions = [0.0f64; POSITIONS];
+    put_clocks(&mut ticks, &mut positions, clocks);
+    move_arrays(
         places,
         levels,
         amplitudes,
@@ -89,8 +139,11 @@ pub fn move_state(
         shorts,
         values,
         times,
+        still,
         dt,
-        clocks,
+        count,
+        &ticks,
+        &positions,
         table,
     );
 }
@@ -167,7 +220,9 @@ fn process_chunk<'a>(
     times: &mut [f64],
     still: bool,
     dt: f64,
-    clocks: Clocks,
+    clocks: usize,
+    ticks: &[u64],
+    positions: &[f64],
     sub_tracks: &Links,
     sounds: &Links,
     routes: &Links,
@@ -184,24 +239,25 @@ fn process_chunk<'a>(
     out: &mut [f32],
 )
     requires { ⌜ IsGainTable (now table) ⌝ }
-    requires { ⌜ ChunkAsks still frames dt clocks
+    requires { ⌜ ChunkAsks still frames dt (clocksFrom clocks (now ticks) (now positions))
         (arrays (now places) (now levels) (now amplitudes) (numbers (now kinds) (now counts) (now shorts) (now values) (now times)))
         (recordings (now samples) (now visitor)) (now «sub_tracks») (now sounds) (now routes) ⌝ }
+    requires { ⌜ ClocksSized clocks (now ticks) (now positions) ⌝ }
     requires { ⌜ cond ends (now last) (now full) ≡ partsOf frames ⌝ }
     requires { ⌜ (1 ≤ channels) × (channels ≤ channelsMost) ⌝ }
     requires { ⌜ length (now out) ≡ frames * channels ⌝ }
     requires { ⌜ (length (now sends) ≡ sendPlaces) × (length (now mix) ≡ 2 * chunkFramesMost) ⌝ }
     ensures state { λ _. ⌜ arrays (now (places .exit)) (now (levels .exit)) (now (amplitudes .exit))
         (numbers (now (kinds .exit)) (now (counts .exit)) (now (shorts .exit)) (now (values .exit)) (now (times .exit)))
-        ≡ arraysAfter still frames dt clocks (arrays (now (places .entry)) (now (levels .entry)) (now (amplitudes .entry))
+        ≡ arraysAfter still frames dt (clocksFrom clocks (now (ticks .entry)) (now (positions .entry))) (arrays (now (places .entry)) (now (levels .entry)) (now (amplitudes .entry))
         (numbers (now (kinds .entry)) (now (counts .entry)) (now (shorts .entry)) (now (values .entry)) (now (times .entry)))) ⌝ }
     ensures samples { λ _. ⌜ (let a = arrays (now (places .entry)) (now (levels .entry)) (now (amplitudes .entry))
         (numbers (now (kinds .entry)) (now (counts .entry)) (now (shorts .entry)) (now (values .entry)) (now (times .entry))) in
         let heard = recordings (now (samples .entry)) (now (visitor .entry)) in
-        now (out .exit) ≡ mixedSamples channels frames (arraysChunk (arraysIn still frames dt clocks a)) heard) ⌝ }
+        now (out .exit) ≡ mixedSamples channels frames (arraysChunk (arraysIn still frames dt (clocksFrom clocks (now (ticks .entry)) (now (positions .entry))) a)) heard) ⌝ }
 {
     places[FRAMES] = frames;
-    move_state(
+    move_arrays(
         places,
         levels,
         amplitudes,
@@ -213,6 +269,8 @@ fn process_chunk<'a>(
         still,
         dt,
         clocks,
+        ticks,
+        positions,
         table,
     );
     mix_chunk(
@@ -280,7 +338,10 @@ fn process_chunks<'a>(
 {
     let channels = head.channels;
     let count = renderer::chunk_count(head);
-    let mut moved = clocks;
+    let there = clocks.count;
+    let mut ticks = [0u64; TICKS];
+    let mut positions = [0.0f64; POSITIONS];
+    put_clocks(&mut ticks, &mut positions, clocks);
     let mut k = 0;
     while k < count {
         let frames = renderer::chunk_frames(head, k);
@@ -288,7 +349,7 @@ fn process_chunks<'a>(
         let to = from + frames * channels;
         let ends = k + 1 == count;
         let dt = renderer::chunk_seconds(head.rate, frames);
-        moved = update_clocks(moved, dt);
+        update_clocks(there, &mut ticks, &mut positions, dt);
         process_chunk(
             places,
             levels,
@@ -300,7 +361,9 @@ fn process_chunks<'a>(
             times,
             still,
             dt,
-            moved,
+            there,
+            &ticks,
+            &positions,
             sub_tracks,
             sounds,
             routes,
@@ -318,7 +381,7 @@ fn process_chunks<'a>(
         );
         k += 1;
     }
-    moved
+    clocks_at(there, &ticks, &positions)
 }
 
 // The clocks after a block.
@@ -330,14 +393,18 @@ pub fn block_clocks(clocks: Clocks, head: Head) -> Clocks
         return clocks;
     }
     let count = renderer::chunk_count(head);
-    let mut moved = clocks;
+    let there = clocks.count;
+    let mut ticks = [0u64; TICKS];
+    let mut positions = [0.0f64; POSITIONS];
+    put_clocks(&mut ticks, &mut positions, clocks);
     let mut k = 0;
     while k < count {
         let frames = renderer::chunk_frames(head, k);
-        moved = update_clocks(moved, renderer::chunk_seconds(head.rate, frames));
+        let dt = renderer::chunk_seconds(head.rate, frames);
+        update_clocks(there, &mut ticks, &mut positions, dt);
         k += 1;
     }
-    moved
+    clocks_at(there, &ticks, &positions)
 }
 
 // The ticks that each clock has counted.

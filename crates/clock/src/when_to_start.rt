@@ -1,7 +1,7 @@
 // kira's clocks, and `when_to_start` of its info.rs.
 ghost use mathlib.Core.Path.{_≡_};
 ghost use Prim.Native.Nat.{_≤_};
-ghost use Rattle.clock.specs.WhenToStart.{clocksUpdated, whenToStart, CanMoveAll};
+ghost use Rattle.clock.specs.WhenToStart.{whenToStart};
 use crate::clock::Clock;
 use crate::clock_time::ClockTime;
 
@@ -20,21 +20,6 @@ pub struct Clocks {
 }
 
 impl Clocks {
-    pub fn update(self, dt: f64) -> Clocks
-        requires { ⌜ CanMoveAll self dt ⌝ }
-        ensures { λ r. ⌜ r ≡ clocksUpdated self dt ⌝ }
-    {
-        let mut clocks = self.clocks;
-        let count = self.count;
-        let mut i = 0;
-        while i < count {
-            let clock = clocks[i];
-            clocks[i] = clock.update(dt);
-            i += 1;
-        }
-        Clocks { clocks, count }
-    }
-
     pub fn when_to_start(self, time: ClockTime) -> WhenToStart
         requires { ⌜ self .count ≤ 8 ⌝ }
         ensures { λ r. ⌜ r ≡ whenToStart self time ⌝ }

@@ -1,4 +1,5 @@
 pub mod Rest
+pub mod Clocks
 pub mod Ended
 pub mod Moved
 pub mod Lines

@@ -9,7 +9,14 @@ use Rattle.limits.specs.Limits.{trackPlaces, routeLines}
 use Rattle.laws.specs.Loop.{upto}
 use Rattle.decibels.specs.Decibels.{admitted, amplitude}
 use Rattle.clock.specs.declared.when_to_start.Clocks.{Clocks}
+use Rattle.tween.specs.declared.start_time.StartTime.{StartTime}
+use Rattle.tween.specs.declared.start_time.StartTime.the-variants.{Immediate}
+use Rattle.parameter.specs.declared.parameter.ParameterState.{ParameterState}
+use Rattle.parameter.specs.declared.parameter.ParameterState.the-variants.{Idle, Tweening}
+use Rattle.parameter.specs.declared.parameter.Parameter.{Parameter}
 use Rattle.parameter.specs.Parameter.{parameterUpdate}
+use Rattle.playback.specs.declared.playback_state_manager.PlaybackState.{PlaybackState}
+use Rattle.playback.specs.declared.playback_state_manager.PlaybackState.the-variants.{Playing, Pausing, Paused, WaitingToResume, Resuming, Stopping, Stopped}
 use Rattle.playback.specs.declared.playback_state_manager.PlaybackStateManager.{PlaybackStateManager}
 use Rattle.playback.specs.PlaybackStateManager.{isAdvancing, stateUpdate}
 use Rattle.chunk.specs.declared.chunk.Level.{Level}
@@ -23,6 +30,24 @@ use Rattle.moving_mixer.specs.State.{Arrays, arrays, fadeNumber, routeNu
 -- a level after a chunk that moves nothing
 abbrev pub stayed : Level → Level
 stayed level = record { before = level .now; now = level .now }
+
+-- ---- which start time clocks are asked for
+
+abbrev pub startIn : ParameterState → StartTime
+startIn (Idle value) = Immediate
+startIn (Tweening start target time tween) = tween .«start_time»
+
+abbrev pub startOf : Parameter → StartTime
+startOf p = startIn (p .state)
+
+abbrev pub awaited : PlaybackState → StartTime
+awaited Playing = Immediate
+awaited Pausing = Immediate
+awaited Paused = Immediate
+awaited (WaitingToResume start tween) = start
+awaited Resuming = Immediate
+awaited Stopping = Immediate
+awaited Stopped = Immediate
 
 -- ---- a parameter of this level: its level and the numbers after a chunk
 

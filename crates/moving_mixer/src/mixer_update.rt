@@ -6,16 +6,17 @@ ghost use Prim.Native.Nat.{ℕ, _+_, _*_, _≤_, _<_};
 ghost use lib.Dec.{T};
 ghost use lib.Ieee.{Float};
 ghost use lib.ListN.{length, getD, set};
-ghost use Rattle.limits.specs.Limits.{clockLines, trackPlaces, sendLines, routeLines};
+ghost use Rattle.limits.specs.Limits.{trackPlaces, sendLines, routeLines};
 ghost use Rattle.rounding.specs.Duration.{InAnHour};
 ghost use Rattle.gain_table.specs.GainTable.{IsGainTable};
 ghost use Rattle.decibels.specs.Decibels.{admitted, amplitude};
+ghost use Rattle.clock_store.specs.ClockStore.{clocksFrom, ClocksSized};
 ghost use Rattle.parameter.specs.Parameter.{parameterUpdate};
 ghost use Rattle.chunk.specs.Flat.{placesSize, levelsSize, sendCountPlace, routeTracksFrom};
 ghost use Rattle.mixer_chunk.specs.ChunkOf.{levelOf};
 ghost use Rattle.parameter_store.specs.Store.{numbers, Sized, parameters, kindsSize};
 ghost use Rattle.moving_mixer.specs.State.{arrays, mixerRoute};
-ghost use Rattle.moving_mixer.specs.Update.{stayed, levelOn, parameterOn, playbackRests, stateStays, withManager, stateOn, fadeOn, playbackOn};
+ghost use Rattle.moving_mixer.specs.Update.{stayed, startOf, awaited, levelOn, parameterOn, playbackRests, stateStays, withManager, stateOn, fadeOn, playbackOn};
 ghost use Rattle.moving_mixer.specs.Update.{reachedOn, liveBelow, trackOn, tracksOn, routeMoved, routeOn, routesOn, levelledOn, sendsOn, mixerOn};
 ghost use Rattle.moving_mixer.specs.Update.{TracksThere, RoutesThere, RoutesHeard};
 use chunk::ADVANCING;
@@ -34,12 +35,13 @@ use chunk::TRACK_LEVELS;
 use chunk::flag;
 use chunk::level_at;
 use chunk::put_level;
-use clock::Clocks;
+use clock_store::clocks_for;
 use gain_table::GainTable;
 use limits::ROUTE_LINES;
 use limits::SEND_LINES;
 use limits::TRACK_PLACES;
 use parameter::Parameter;
+use parameter::ParameterState;
 use parameter_store::advances_at;
 use parameter_store::parameter_at;
 use parameter_store::playback_state_at;
@@ -51,7 +53,9 @@ use parameter_store::reached_at;
 use parameter_store::route_level_at;
 use parameter_store::stagnant_at;
 use parameter_store::waits_at;
+use playback::PlaybackState;
 use playback::PlaybackStateManager;
+use tween::StartTime;
 
 // Where the numbers of parameters begin: the tracks' volumes at 0, and these.
 pub const FADES: usize = TRACK_PLACES;
@@ -82,6 +86,40 @@ fn stayed(level: Level) -> Level
     }
 }
 
+// What a parameter's motion starts with. One that has none asks no clock.
+fn start_of(parameter: Parameter) -> StartTime
+    ensures { λ r. ⌜ r ≡ startOf parameter ⌝ }
+{
+    let state = parameter.state;
+    match state {
+        ParameterState::Idle { value: _ } => StartTime::Immediate,
+        ParameterState::Tweening {
+            start: _,
+            target: _,
+            time: _,
+            tween,
+        } => tween.start_time,
+    }
+}
+
+// What a playback state waits for, if it does.
+fn awaited(state: PlaybackState) -> StartTime
+    ensures { λ r. ⌜ r ≡ awaited state ⌝ }
+{
+    match state {
+        PlaybackState::Playing => StartTime::Immediate,
+        PlaybackState::Pausing => StartTime::Immediate,
+        PlaybackState::Paused => StartTime::Immediate,
+        PlaybackState::WaitingToResume {
+            start_time,
+            fade_in_tween: _,
+        } => start_time,
+        PlaybackState::Resuming => StartTime::Immediate,
+        PlaybackState::Stopping => StartTime::Immediate,
+        PlaybackState::Stopped => StartTime::Immediate,
+    }
+}
+
 // Parameter p, which has this level. It answers the level after the chunk.
 fn update_parameter(
     kinds: &mut [usize],
@@ -92,20 +130,23 @@ fn update_parameter(
     p: usize,
     level: Level,
     dt: f64,
-    clocks: Clocks,
+    clocks: usize,
+    ticks: &[u64],
+    positions: &[f64],
 ) -> Level
     requires { ⌜ p < parameters ⌝ }
     requires { ⌜ Sized (numbers (now kinds) (now counts) (now shorts) (now values) (now times)) ⌝ }
     requires { ⌜ InAnHour dt ⌝ }
-    requires { ⌜ clocks .count ≤ clockLines ⌝ }
-    ensures moved { λ r. ⌜ r ≡ levelOn dt clocks p level (numbers (now (kinds .entry)) (now (counts .entry)) (now (shorts .entry)) (now (values .entry)) (now (times .entry))) ⌝ }
-    ensures state { λ _. ⌜ numbers (now (kinds .exit)) (now (counts .exit)) (now (shorts .exit)) (now (values .exit)) (now (times .exit)) ≡ parameterOn dt clocks p level (numbers (now (kinds .entry)) (now (counts .entry)) (now (shorts .entry)) (now (values .entry)) (now (times .entry))) ⌝ }
+    requires { ⌜ ClocksSized clocks (now ticks) (now positions) ⌝ }
+    ensures moved { λ r. ⌜ r ≡ levelOn dt (clocksFrom clocks (now (ticks .entry)) (now (positions .entry))) p level (numbers (now (kinds .entry)) (now (counts .entry)) (now (shorts .entry)) (now (values .entry)) (now (times .entry))) ⌝ }
+    ensures state { λ _. ⌜ numbers (now (kinds .exit)) (now (counts .exit)) (now (shorts .exit)) (now (values .exit)) (now (times .exit)) ≡ parameterOn dt (clocksFrom clocks (now (ticks .entry)) (now (positions .entry))) p level (numbers (now (kinds .entry)) (now (counts .entry)) (now (shorts .entry)) (now (values .entry)) (now (times .entry))) ⌝ }
 {
     if stagnant_at(kinds, p) {
         return stayed(level);
     }
     let parameter = parameter_at(kinds, counts, shorts, values, times, p, level);
-    let update = parameter.update(dt, clocks);
+    let known = clocks_for(start_of(parameter), clocks, ticks, positions);
+    let update = parameter.update(dt, known);
     let moved = update.parameter;
     put_parameter(kinds, counts, shorts, values, times, p, moved);
     level_of(moved)
@@ -167,17 +208,20 @@ fn update_state(
     j: usize,
     level: Level,
     dt: f64,
-    clocks: Clocks,
+    clocks: usize,
+    ticks: &[u64],
+    positions: &[f64],
 )
     requires { ⌜ j < trackPlaces ⌝ }
     requires { ⌜ Sized (numbers (now kinds) (now counts) (now shorts) (now values) (now times)) ⌝ }
     requires { ⌜ InAnHour dt ⌝ }
-    requires { ⌜ clocks .count ≤ clockLines ⌝ }
-    ensures { λ _. ⌜ numbers (now (kinds .exit)) (now (counts .exit)) (now (shorts .exit)) (now (values .exit)) (now (times .exit)) ≡ stateOn dt clocks j level (numbers (now (kinds .entry)) (now (counts .entry)) (now (shorts .entry)) (now (values .entry)) (now (times .entry))) ⌝ }
+    requires { ⌜ ClocksSized clocks (now ticks) (now positions) ⌝ }
+    ensures { λ _. ⌜ numbers (now (kinds .exit)) (now (counts .exit)) (now (shorts .exit)) (now (values .exit)) (now (times .exit)) ≡ stateOn dt (clocksFrom clocks (now (ticks .entry)) (now (positions .entry))) j level (numbers (now (kinds .entry)) (now (counts .entry)) (now (shorts .entry)) (now (values .entry)) (now (times .entry))) ⌝ }
 {
     let fade = parameter_at(kinds, counts, shorts, values, times, FADES + j, level);
     let state = playback_state_at(kinds, counts, shorts, times, j);
-    let update = playback::update_state(state, fade, true, dt, clocks);
+    let known = clocks_for(awaited(state), clocks, ticks, positions);
+    let update = playback::update_state(state, fade, true, dt, known);
     let moved = update.manager;
     put_manager(kinds, counts, shorts, values, times, j, moved);
 }
@@ -193,14 +237,16 @@ fn update_playback(
     j: usize,
     level: Level,
     dt: f64,
-    clocks: Clocks,
+    clocks: usize,
+    ticks: &[u64],
+    positions: &[f64],
 ) -> Level
     requires { ⌜ j < trackPlaces ⌝ }
     requires { ⌜ Sized (numbers (now kinds) (now counts) (now shorts) (now values) (now times)) ⌝ }
     requires { ⌜ InAnHour dt ⌝ }
-    requires { ⌜ clocks .count ≤ clockLines ⌝ }
-    ensures moved { λ r. ⌜ r ≡ fadeOn dt clocks j level (numbers (now (kinds .entry)) (now (counts .entry)) (now (shorts .entry)) (now (values .entry)) (now (times .entry))) ⌝ }
-    ensures state { λ _. ⌜ numbers (now (kinds .exit)) (now (counts .exit)) (now (shorts .exit)) (now (values .exit)) (now (times .exit)) ≡ playbackOn dt clocks j level (numbers (now (kinds .entry)) (now (counts .entry)) (now (shorts .entry)) (now (values .entry)) (now (times .entry))) ⌝ }
+    requires { ⌜ ClocksSized clocks (now ticks) (now positions) ⌝ }
+    ensures moved { λ r. ⌜ r ≡ fadeOn dt (clocksFrom clocks (now (ticks .entry)) (now (positions .entry))) j level (numbers (now (kinds .entry)) (now (counts .entry)) (now (shorts .entry)) (now (values .entry)) (now (times .entry))) ⌝ }
+    ensures state { λ _. ⌜ numbers (now (kinds .exit)) (now (counts .exit)) (now (shorts .exit)) (now (values .exit)) (now (times .exit)) ≡ playbackOn dt (clocksFrom clocks (now (ticks .entry)) (now (positions .entry))) j level (numbers (now (kinds .entry)) (now (counts .entry)) (now (shorts .entry)) (now (values .entry)) (now (times .entry))) ⌝ }
 {
     if playback_rests(kinds, j) {
         return stayed(level);
@@ -215,11 +261,25 @@ fn update_playback(
         level,
         dt,
         clocks,
+        ticks,
+        positions,
     );
     if state_stays(kinds, j) {
         return faded;
     }
-    update_state(kinds, counts, shorts, values, times, j, faded, dt, clocks);
+    update_state(
+        kinds,
+        counts,
+        shorts,
+        values,
+        times,
+        j,
+        faded,
+        dt,
+        clocks,
+        ticks,
+        positions,
+    );
     faded
 }
 
@@ -234,22 +294,48 @@ fn update_reached(
     times: &mut [f64],
     j: usize,
     dt: f64,
-    clocks: Clocks,
+    clocks: usize,
+    ticks: &[u64],
+    positions: &[f64],
 )
     requires { ⌜ j < trackPlaces ⌝ }
     requires { ⌜ length (now places) ≡ placesSize ⌝ }
     requires { ⌜ length (now levels) ≡ levelsSize ⌝ }
     requires { ⌜ Sized (numbers (now kinds) (now counts) (now shorts) (now values) (now times)) ⌝ }
     requires { ⌜ InAnHour dt ⌝ }
-    requires { ⌜ clocks .count ≤ clockLines ⌝ }
+    requires { ⌜ ClocksSized clocks (now ticks) (now positions) ⌝ }
     ensures { λ _. ⌜ ((amplitudes : List Float)
         → arrays (now (places .exit)) (now (levels .exit)) amplitudes (numbers (now (kinds .exit)) (now (counts .exit)) (now (shorts .exit)) (now (values .exit)) (now (times .exit)))
-        ≡ reachedOn dt clocks j (arrays (now (places .entry)) (now (levels .entry)) amplitudes (numbers (now (kinds .entry)) (now (counts .entry)) (now (shorts .entry)) (now (values .entry)) (now (times .entry))))) ⌝ }
+        ≡ reachedOn dt (clocksFrom clocks (now (ticks .entry)) (now (positions .entry))) j (arrays (now (places .entry)) (now (levels .entry)) amplitudes (numbers (now (kinds .entry)) (now (counts .entry)) (now (shorts .entry)) (now (values .entry)) (now (times .entry))))) ⌝ }
 {
     let volume = level_at(levels, TRACK_LEVELS * j);
     let fade = level_at(levels, TRACK_LEVELS * j + LEVEL);
-    let moved = update_parameter(kinds, counts, shorts, values, times, j, volume, dt, clocks);
-    let faded = update_playback(kinds, counts, shorts, values, times, j, fade, dt, clocks);
+    let moved = update_parameter(
+        kinds,
+        counts,
+        shorts,
+        values,
+        times,
+        j,
+        volume,
+        dt,
+        clocks,
+        ticks,
+        positions,
+    );
+    let faded = update_playback(
+        kinds,
+        counts,
+        shorts,
+        values,
+        times,
+        j,
+        fade,
+        dt,
+        clocks,
+        ticks,
+        positions,
+    );
     put_level(levels, TRACK_LEVELS * j, moved);
     put_level(levels, TRACK_LEVELS * j + LEVEL, faded);
     places[ADVANCING + j] = flag(advances_at(kinds, j));
@@ -276,7 +362,9 @@ fn update_track(
     times: &mut [f64],
     j: usize,
     dt: f64,
-    clocks: Clocks,
+    clocks: usize,
+    ticks: &[u64],
+    positions: &[f64],
 )
     requires { ⌜ j < trackPlaces ⌝ }
     requires { ⌜ getD (now places) j 0 ≤ trackPlaces ⌝ }
@@ -284,10 +372,10 @@ fn update_track(
     requires { ⌜ length (now levels) ≡ levelsSize ⌝ }
     requires { ⌜ Sized (numbers (now kinds) (now counts) (now shorts) (now values) (now times)) ⌝ }
     requires { ⌜ InAnHour dt ⌝ }
-    requires { ⌜ clocks .count ≤ clockLines ⌝ }
+    requires { ⌜ ClocksSized clocks (now ticks) (now positions) ⌝ }
     ensures { λ _. ⌜ ((amplitudes : List Float)
         → arrays (now (places .exit)) (now (levels .exit)) amplitudes (numbers (now (kinds .exit)) (now (counts .exit)) (now (shorts .exit)) (now (values .exit)) (now (times .exit)))
-        ≡ trackOn dt clocks j (arrays (now (places .entry)) (now (levels .entry)) amplitudes (numbers (now (kinds .entry)) (now (counts .entry)) (now (shorts .entry)) (now (values .entry)) (now (times .entry))))) ⌝ }
+        ≡ trackOn dt (clocksFrom clocks (now (ticks .entry)) (now (positions .entry))) j (arrays (now (places .entry)) (now (levels .entry)) amplitudes (numbers (now (kinds .entry)) (now (counts .entry)) (now (shorts .entry)) (now (values .entry)) (now (times .entry))))) ⌝ }
 {
     let parent = places[j];
     if live_below(places, parent) {
@@ -302,6 +390,8 @@ fn update_track(
             j,
             dt,
             clocks,
+            ticks,
+            positions,
         );
         return;
     }
@@ -319,17 +409,19 @@ fn update_tracks(
     values: &mut [f32],
     times: &mut [f64],
     dt: f64,
-    clocks: Clocks,
+    clocks: usize,
+    ticks: &[u64],
+    positions: &[f64],
 )
     requires { ⌜ TracksThere (now places) ⌝ }
     requires { ⌜ length (now places) ≡ placesSize ⌝ }
     requires { ⌜ length (now levels) ≡ levelsSize ⌝ }
     requires { ⌜ Sized (numbers (now kinds) (now counts) (now shorts) (now values) (now times)) ⌝ }
     requires { ⌜ InAnHour dt ⌝ }
-    requires { ⌜ clocks .count ≤ clockLines ⌝ }
+    requires { ⌜ ClocksSized clocks (now ticks) (now positions) ⌝ }
     ensures { λ _. ⌜ ((amplitudes : List Float)
         → arrays (now (places .exit)) (now (levels .exit)) amplitudes (numbers (now (kinds .exit)) (now (counts .exit)) (now (shorts .exit)) (now (values .exit)) (now (times .exit)))
-        ≡ tracksOn dt clocks (arrays (now (places .entry)) (now (levels .entry)) amplitudes (numbers (now (kinds .entry)) (now (counts .entry)) (now (shorts .entry)) (now (values .entry)) (now (times .entry))))) ⌝ }
+        ≡ tracksOn dt (clocksFrom clocks (now (ticks .entry)) (now (positions .entry))) (arrays (now (places .entry)) (now (levels .entry)) amplitudes (numbers (now (kinds .entry)) (now (counts .entry)) (now (shorts .entry)) (now (values .entry)) (now (times .entry))))) ⌝ }
 {
     let count = places[TRACK_COUNT];
     let mut j = 0;
@@ -345,6 +437,8 @@ fn update_tracks(
             j,
             dt,
             clocks,
+            ticks,
+            positions,
         );
         j += 1;
     }
@@ -381,18 +475,20 @@ fn move_route(
     times: &mut [f64],
     r: usize,
     dt: f64,
-    clocks: Clocks,
+    clocks: usize,
+    ticks: &[u64],
+    positions: &[f64],
     table: &GainTable,
 )
     requires { ⌜ IsGainTable (now table) ⌝ }
     requires { ⌜ r < routeLines ⌝ }
-    requires { ⌜ T (admitted (parameterUpdate (mixerRoute (numbers (now kinds) (now counts) (now shorts) (now values) (now times)) r) dt clocks .parameter .«raw_value» .0)) ⌝ }
+    requires { ⌜ T (admitted (parameterUpdate (mixerRoute (numbers (now kinds) (now counts) (now shorts) (now values) (now times)) r) dt (clocksFrom clocks (now ticks) (now positions)) .parameter .«raw_value» .0)) ⌝ }
     requires { ⌜ Sized (numbers (now kinds) (now counts) (now shorts) (now values) (now times)) ⌝ }
     requires { ⌜ InAnHour dt ⌝ }
-    requires { ⌜ clocks .count ≤ clockLines ⌝ }
+    requires { ⌜ ClocksSized clocks (now ticks) (now positions) ⌝ }
     ensures { λ _. ⌜ ((places : List ℕ) (levels : List Float)
         → arrays places levels (now (amplitudes .exit)) (numbers (now (kinds .exit)) (now (counts .exit)) (now (shorts .exit)) (now (values .exit)) (now (times .exit)))
-        ≡ routeMoved dt clocks r (arrays places levels (now (amplitudes .entry)) (numbers (now (kinds .entry)) (now (counts .entry)) (now (shorts .entry)) (now (values .entry)) (now (times .entry))))) ⌝ }
+        ≡ routeMoved dt (clocksFrom clocks (now (ticks .entry)) (now (positions .entry))) r (arrays places levels (now (amplitudes .entry)) (numbers (now (kinds .entry)) (now (counts .entry)) (now (shorts .entry)) (now (values .entry)) (now (times .entry))))) ⌝ }
 {
     let level = route_level_at(values, r);
     let stagnant = stagnant_at(kinds, ROUTE_PARAMETERS + r);
@@ -406,6 +502,8 @@ fn move_route(
         level,
         dt,
         clocks,
+        ticks,
+        positions,
     );
     put_route_level(values, r, moved);
     put_amplitude(amplitudes, r, moved, stagnant, table);
@@ -421,19 +519,21 @@ fn update_route(
     times: &mut [f64],
     r: usize,
     dt: f64,
-    clocks: Clocks,
+    clocks: usize,
+    ticks: &[u64],
+    positions: &[f64],
     table: &GainTable,
 )
     requires { ⌜ IsGainTable (now table) ⌝ }
     requires { ⌜ r < routeLines ⌝ }
     requires { ⌜ (1 ≤ getD (now places) (routeTracksFrom + r) 0) × (getD (now places) (routeTracksFrom + r) 0 ≤ trackPlaces) ⌝ }
-    requires { ⌜ T (admitted (parameterUpdate (mixerRoute (numbers (now kinds) (now counts) (now shorts) (now values) (now times)) r) dt clocks .parameter .«raw_value» .0)) ⌝ }
+    requires { ⌜ T (admitted (parameterUpdate (mixerRoute (numbers (now kinds) (now counts) (now shorts) (now values) (now times)) r) dt (clocksFrom clocks (now ticks) (now positions)) .parameter .«raw_value» .0)) ⌝ }
     requires { ⌜ Sized (numbers (now kinds) (now counts) (now shorts) (now values) (now times)) ⌝ }
     requires { ⌜ InAnHour dt ⌝ }
-    requires { ⌜ clocks .count ≤ clockLines ⌝ }
+    requires { ⌜ ClocksSized clocks (now ticks) (now positions) ⌝ }
     ensures { λ _. ⌜ ((levels : List Float)
         → arrays (now (places .entry)) levels (now (amplitudes .exit)) (numbers (now (kinds .exit)) (now (counts .exit)) (now (shorts .exit)) (now (values .exit)) (now (times .exit)))
-        ≡ routeOn dt clocks r (arrays (now (places .entry)) levels (now (amplitudes .entry)) (numbers (now (kinds .entry)) (now (counts .entry)) (now (shorts .entry)) (now (values .entry)) (now (times .entry))))) ⌝ }
+        ≡ routeOn dt (clocksFrom clocks (now (ticks .entry)) (now (positions .entry))) r (arrays (now (places .entry)) levels (now (amplitudes .entry)) (numbers (now (kinds .entry)) (now (counts .entry)) (now (shorts .entry)) (now (values .entry)) (now (times .entry))))) ⌝ }
 {
     let track = places[ROUTE_TRACKS + r];
     if reached_at(kinds, track - 1) {
@@ -447,6 +547,8 @@ fn update_route(
             r,
             dt,
             clocks,
+            ticks,
+            positions,
             table,
         );
     }
@@ -461,19 +563,21 @@ fn update_routes(
     values: &mut [f32],
     times: &mut [f64],
     dt: f64,
-    clocks: Clocks,
+    clocks: usize,
+    ticks: &[u64],
+    positions: &[f64],
     table: &GainTable,
 )
     requires { ⌜ IsGainTable (now table) ⌝ }
     requires { ⌜ RoutesThere (now places) ⌝ }
-    requires { ⌜ RoutesHeard dt clocks (now places) (numbers (now kinds) (now counts) (now shorts) (now values) (now times)) ⌝ }
+    requires { ⌜ RoutesHeard dt (clocksFrom clocks (now ticks) (now positions)) (now places) (numbers (now kinds) (now counts) (now shorts) (now values) (now times)) ⌝ }
     requires { ⌜ length (now places) ≡ placesSize ⌝ }
     requires { ⌜ Sized (numbers (now kinds) (now counts) (now shorts) (now values) (now times)) ⌝ }
     requires { ⌜ InAnHour dt ⌝ }
-    requires { ⌜ clocks .count ≤ clockLines ⌝ }
+    requires { ⌜ ClocksSized clocks (now ticks) (now positions) ⌝ }
     ensures { λ _. ⌜ ((levels : List Float)
         → arrays (now (places .entry)) levels (now (amplitudes .exit)) (numbers (now (kinds .exit)) (now (counts .exit)) (now (shorts .exit)) (now (values .exit)) (now (times .exit)))
-        ≡ routesOn dt clocks (arrays (now (places .entry)) levels (now (amplitudes .entry)) (numbers (now (kinds .entry)) (now (counts .entry)) (now (shorts .entry)) (now (values .entry)) (now (times .entry))))) ⌝ }
+        ≡ routesOn dt (clocksFrom clocks (now (ticks .entry)) (now (positions .entry))) (arrays (now (places .entry)) levels (now (amplitudes .entry)) (numbers (now (kinds .entry)) (now (counts .entry)) (now (shorts .entry)) (now (values .entry)) (now (times .entry))))) ⌝ }
 {
     let count = places[ROUTE_COUNT];
     let mut r = 0;
@@ -489,6 +593,8 @@ fn update_routes(
             r,
             dt,
             clocks,
+            ticks,
+            positions,
             table,
         );
         r += 1;
@@ -506,19 +612,33 @@ fn update_levelled(
     p: usize,
     at: usize,
     dt: f64,
-    clocks: Clocks,
+    clocks: usize,
+    ticks: &[u64],
+    positions: &[f64],
 )
     requires { ⌜ p < parameters ⌝ }
     requires { ⌜ at + 1 < levelsSize ⌝ }
     requires { ⌜ Sized (numbers (now kinds) (now counts) (now shorts) (now values) (now times)) ⌝ }
     requires { ⌜ InAnHour dt ⌝ }
-    requires { ⌜ clocks .count ≤ clockLines ⌝ }
+    requires { ⌜ ClocksSized clocks (now ticks) (now positions) ⌝ }
     ensures { λ _. ⌜ ((places : List ℕ) (amplitudes : List Float)
         → arrays places (now (levels .exit)) amplitudes (numbers (now (kinds .exit)) (now (counts .exit)) (now (shorts .exit)) (now (values .exit)) (now (times .exit)))
-        ≡ levelledOn dt clocks p at (arrays places (now (levels .entry)) amplitudes (numbers (now (kinds .entry)) (now (counts .entry)) (now (shorts .entry)) (now (values .entry)) (now (times .entry))))) ⌝ }
+        ≡ levelledOn dt (clocksFrom clocks (now (ticks .entry)) (now (positions .entry))) p at (arrays places (now (levels .entry)) amplitudes (numbers (now (kinds .entry)) (now (counts .entry)) (now (shorts .entry)) (now (values .entry)) (now (times .entry))))) ⌝ }
 {
     let level = level_at(levels, at);
-    let moved = update_parameter(kinds, counts, shorts, values, times, p, level, dt, clocks);
+    let moved = update_parameter(
+        kinds,
+        counts,
+        shorts,
+        values,
+        times,
+        p,
+        level,
+        dt,
+        clocks,
+        ticks,
+        positions,
+    );
     put_level(levels, at, moved);
 }
 
@@ -531,17 +651,19 @@ fn update_sends(
     values: &mut [f32],
     times: &mut [f64],
     dt: f64,
-    clocks: Clocks,
+    clocks: usize,
+    ticks: &[u64],
+    positions: &[f64],
 )
     requires { ⌜ getD (now places) sendCountPlace 0 ≤ sendLines ⌝ }
     requires { ⌜ length (now places) ≡ placesSize ⌝ }
     requires { ⌜ length (now levels) ≡ levelsSize ⌝ }
     requires { ⌜ Sized (numbers (now kinds) (now counts) (now shorts) (now values) (now times)) ⌝ }
     requires { ⌜ InAnHour dt ⌝ }
-    requires { ⌜ clocks .count ≤ clockLines ⌝ }
+    requires { ⌜ ClocksSized clocks (now ticks) (now positions) ⌝ }
     ensures { λ _. ⌜ ((amplitudes : List Float)
         → arrays (now (places .entry)) (now (levels .exit)) amplitudes (numbers (now (kinds .exit)) (now (counts .exit)) (now (shorts .exit)) (now (values .exit)) (now (times .exit)))
-        ≡ sendsOn dt clocks (arrays (now (places .entry)) (now (levels .entry)) amplitudes (numbers (now (kinds .entry)) (now (counts .entry)) (now (shorts .entry)) (now (values .entry)) (now (times .entry))))) ⌝ }
+        ≡ sendsOn dt (clocksFrom clocks (now (ticks .entry)) (now (positions .entry))) (arrays (now (places .entry)) (now (levels .entry)) amplitudes (numbers (now (kinds .entry)) (now (counts .entry)) (now (shorts .entry)) (now (values .entry)) (now (times .entry))))) ⌝ }
 {
     let count = places[SEND_COUNT];
     let mut i = 0;
@@ -557,6 +679,8 @@ fn update_sends(
             SENDS + LEVEL * i,
             dt,
             clocks,
+            ticks,
+            positions,
         );
         i += 1;
     }
@@ -573,21 +697,23 @@ pub fn update(
     values: &mut [f32],
     times: &mut [f64],
     dt: f64,
-    clocks: Clocks,
+    clocks: usize,
+    ticks: &[u64],
+    positions: &[f64],
     table: &GainTable,
 )
     requires { ⌜ IsGainTable (now table) ⌝ }
     requires { ⌜ TracksThere (now places) ⌝ }
     requires { ⌜ RoutesThere (now places) ⌝ }
     requires { ⌜ getD (now places) sendCountPlace 0 ≤ sendLines ⌝ }
-    requires { ⌜ RoutesHeard dt clocks (now places) (numbers (now kinds) (now counts) (now shorts) (now values) (now times)) ⌝ }
+    requires { ⌜ RoutesHeard dt (clocksFrom clocks (now ticks) (now positions)) (now places) (numbers (now kinds) (now counts) (now shorts) (now values) (now times)) ⌝ }
     requires { ⌜ length (now places) ≡ placesSize ⌝ }
     requires { ⌜ length (now levels) ≡ levelsSize ⌝ }
     requires { ⌜ Sized (numbers (now kinds) (now counts) (now shorts) (now values) (now times)) ⌝ }
     requires { ⌜ InAnHour dt ⌝ }
-    requires { ⌜ clocks .count ≤ clockLines ⌝ }
+    requires { ⌜ ClocksSized clocks (now ticks) (now positions) ⌝ }
     ensures { λ _. ⌜ arrays (now (places .exit)) (now (levels .exit)) (now (amplitudes .exit)) (numbers (now (kinds .exit)) (now (counts .exit)) (now (shorts .exit)) (now (values .exit)) (now (times .exit)))
-        ≡ mixerOn dt clocks (arrays (now (places .entry)) (now (levels .entry)) (now (amplitudes .entry)) (numbers (now (kinds .entry)) (now (counts .entry)) (now (shorts .entry)) (now (values .entry)) (now (times .entry)))) ⌝ }
+        ≡ mixerOn dt (clocksFrom clocks (now (ticks .entry)) (now (positions .entry))) (arrays (now (places .entry)) (now (levels .entry)) (now (amplitudes .entry)) (numbers (now (kinds .entry)) (now (counts .entry)) (now (shorts .entry)) (now (values .entry)) (now (times .entry)))) ⌝ }
 {
     update_tracks(
         places,
@@ -599,6 +725,8 @@ pub fn update(
         times,
         dt,
         clocks,
+        ticks,
+        positions,
     );
     update_routes(
         places,
@@ -610,6 +738,8 @@ pub fn update(
         times,
         dt,
         clocks,
+        ticks,
+        positions,
         table,
     );
     update_sends(
@@ -622,6 +752,8 @@ pub fn update(
         times,
         dt,
         clocks,
+        ticks,
+        positions,
     );
     update_levelled(
         levels,
@@ -634,5 +766,7 @@ pub fn update(
         MAIN,
         dt,
         clocks,
+        ticks,
+        positions,
     );
 }

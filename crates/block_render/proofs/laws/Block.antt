@@ -137,6 +137,7 @@ module _ (s : Scene) (base now : Mixer) (c : ℕ) (a : Arrays) (l l' l'' : List 
           channels = ok .channels;
           buffer = ok .buffer;
           block = ok .block .1;
+          laid = h .inside .clocks .laid;
           ticks = clocks-move s ok c now (h .inside) few;
           chunks = λ k b. turn-chunk there k;
         }
@@ -192,6 +193,7 @@ module _ (s : Scene) (base now : Mixer) (c : ℕ) (a : Arrays) (l l' l'' : List 
           channels = ok .channels;
           buffer = ok .buffer;
           block = ok .block .1;
+          laid = h .inside .clocks .laid;
           ticks = clocks-move s ok c now (h .inside) few;
           chunks = λ k b. (let m = playedTo s now k in
               chunk-asks s base m c (at-still k) l l' l'' ok (still-stands k) (chunkFrames (s .head) k) (chunkSeconds s k) (clocksOf (suc k)) true c m (updated-still s base m c (at-still k) l l' l'' ok (still-stands k) (chunkFrames (s .head) k) (chunkSeconds s k) (clocksOf (suc k))) samples there

@@ -193,4 +193,4 @@ module _ (g : Ahead) (s : Scene) (base now : Mixer) (c : ℕ) (a : Arrays) (l l'
 -- ---- the clocks
 
 pub clocks-ask : (s : Scene) (now : Mixer) (c : ℕ) → SceneOk s → MixerOk s c now → c + chunkCount (s .head) ≤ 2 ^ 20 → ClocksAsk (s .head) (now .clocks)
-clocks-ask s now c ok within few = record { rate = ok .rate .1; buffer = ok .buffer; block = ok .block .1; ticks = clocks-move s ok c now within few }
+clocks-ask s now c ok within few = record { laid = within .clocks .laid; rate = ok .rate .1; buffer = ok .buffer; block = ok .block .1; ticks = clocks-move s ok c now within few }

@@ -95,7 +95,14 @@ module _ {h : Head} {clocks : Clocks} (ok : ClocksAsk h clocks) {k count : ℕ} 
       turn-clocks = q ∙ ap₂ clocksUpdated e turn-time ∙ sym (upto-suc _ k clocks)
 
 pub asks-clocks : {still : Bool} {h : Head} {clocks : Clocks} {a : Arrays} {samples : Recordings} {l l' l'' : List ℕ} → BlockAsks still h clocks a samples l l' l'' → ClocksAsk h clocks
-asks-clocks ok = record { rate = ok .rate; buffer = ok .buffer; block = ok .block; ticks = ok .ticks }
+asks-clocks ok = record { laid = ok .laid; rate = ok .rate; buffer = ok .buffer; block = ok .block; ticks = ok .ticks }
+
+-- by clocks that are the same
+pub asks-at : {still : Bool} {h : Head} {clocks others : Clocks} {a : Arrays} {samples : Recordings} {l l' l'' : List ℕ} → others ≡ clocks → BlockAsks still h clocks a samples l l' l'' → BlockAsks still h others a samples l l' l''
+asks-at {still = still} {h = h} {a = a} {samples = samples} {l = l} {l' = l'} {l'' = l''} e ok = subst (λ (x : Clocks). BlockAsks still h x a samples l l' l'') (sym e) ok
+
+pub clocks-as : {h : Head} {clocks others : Clocks} → others ≡ clocks → ClocksAsk h clocks → ClocksAsk h others
+clocks-as {h = h} e ok = subst (λ (x : Clocks). ClocksAsk h x) (sym e) ok
 
 module _ {still : Bool} {h : Head} {clocks : Clocks} {a : Arrays} {samples : Recordings} {l l' l'' : List ℕ} (ok : BlockAsks still h clocks a samples l l' l'') {k count : ℕ} (b : k < count) (all : count ≡ chunkCount h) where
   inside : k < chunkCount h

@@ -1,11 +1,12 @@
 -- A new mixer. Assumes nothing.
-use mathlib.Core.Path.{refl, sym, subst}
+use mathlib.Core.Path.{refl, sym, subst, _∙_}
 use Prim.Native.Nat.{ℕ, _≤_, zero-le}
 use native.Mathlib.Nat.{le-trans}
 use lib.ListN.{replicate, length-replicate, getD-replicate}
 use Rattle.limits.specs.Limits.{clockLines, trackPlaces, sendLines, routeLines, soundLines}
 use Rattle.laws.specs.DecibelRange.{TargetRange}
 use Rattle.laws.proofs.laws.DecibelRange.{target→value}
+use Rattle.laws.proofs.laws.Loop.{changed-from}
 use Rattle.decibels.specs.declared.decibels.Decibels.{Decibels}
 use Rattle.clock.specs.Clock.{newClock, ClockWithin}
 use Rattle.clock.specs.WhenToStart.{ClocksWithin, absentClock}
@@ -32,12 +33,20 @@ track-new-ok clocks volume h = record { volume = parameter-new-ok volume h; play
 
 module _ (s : Scene) (ok : SceneOk s) where
   clocks-new-ok : ClocksWithin 0 (clocksNew s)
-  unfolding clocksNew
+  unfolding clocksNew emptyClock
   clocks-new-ok =
       let clocks : ArrayOk (λ i c. ClockWithin 0 c) (s .«clock_count») clockLines absentClock (clocksNew s .clocks)
       = changed-array (replicate clockLines emptyClock) (λ i c. newClock (clockLine s i .speed) (clockLine s i .ticking)) (ok .clockCount) (length-replicate clockLines emptyClock)
       (λ i b. newClock-within (clockLine s i .speed) (clockLine s i .ticking) (ok .clocks i b .0) (ok .clocks i b .1)) in
-      record { few = ok .clockCount; each = clocks .each }
+      record {
+        few = ok .clockCount;
+        laid = record {
+          few = ok .clockCount;
+          long = clocks .places;
+          rest = λ i h b. changed-from (λ j c. newClock (clockLine s j .speed) (clockLine s j .ticking)) (s .«clock_count») (replicate clockLines emptyClock) i absentClock h ∙ getD-replicate clockLines i emptyClock absentClock b;
+        };
+        each = clocks .each;
+      }
 
   tracks-new-ok : TracksOk (s .«clock_count») (s .«track_count») (tracksNew s)
   unfolding tracksNew

@@ -16,35 +16,35 @@ use Rattle.block_render.proofs.block.process_chunk.Tie as tie
 element-write-places : tie.Need-element-write-places
 element-write-places c = search needs
 
-move-state-requires : tie.Need-move-state-requires
+move-arrays-requires : tie.Need-move-arrays-requires
 unfolding framed
-move-state-requires c κs =
-    let start = c .before .before .before .before .before .before .before .before .before .before .before .before .before .before .before .before .before .before in
+move-arrays-requires c κs =
+    let start = c .before .before .before .before .before .before .before .before .before .before .before .before .before .before .before .before .before .before .before .before in
     let ask = start .pre .1 .0 in
     let long = framed-long (start .args .frames) (start .args .places .now) ∙ ask .sized .places in
-    (start .pre .0, (ask .parents, (ask .named, (ask .sends, (ask .heard, (record { places = long; levels = ask .sized .levels; state = ask .sized .state }, (ask .hour, ask .few)))))))
+    (start .pre .0, (ask .parents, (ask .named, (ask .sends, (ask .heard, (record { places = long; levels = ask .sized .levels; state = ask .sized .state }, (ask .hour, start .pre .1 .1 .0)))))))
 
 mix-chunk-requires : tie.Need-mix-chunk-requires
 unfolding arraysIn framed
 mix-chunk-requires c κs =
-    let start = c .before .before .before .before .before .before .before .before .before .before .before .before .before .before .before .before .before .before .before .before .before .before .before .before .before .before .before .before .before .before .before .before .before .before in
+    let start = c .before .before .before .before .before .before .before .before .before .before .before .before .before .before .before .before .before .before .before .before .before .before .before .before .before .before .before .before .before .before .before .before .before .before .before .before in
     let ask = start .pre .1 .0 in
-    let e = c .before .before .before .before .before .before .before .before .before .before .before .before .before .before .before .move-state .ensures in
-    (start .pre .0, (in-mixes ask e, (start .pre .1 .1 .0 ∙ ap partsOf (sym (in-frames ask e)), (omega (arith, in-mixes ask e .short, start .pre .1 .1 .1 .1 .1 .1), (in-links ask e, start .pre .1 .1 .1 .1 .1 .0)))))
+    let e = c .before .before .before .before .before .before .before .before .before .before .before .before .before .before .before .move-arrays .ensures in
+    (start .pre .0, (in-mixes ask e, (start .pre .1 .1 .1 .0 ∙ ap partsOf (sym (in-frames ask e)), (omega (arith, in-mixes ask e .short, start .pre .1 .1 .1 .1 .1 .1 .1), (in-links ask e, start .pre .1 .1 .1 .1 .1 .1 .0)))))
 
 write-frames-requires : tie.Need-write-frames-requires
 unfolding arraysIn framed
 write-frames-requires c κs =
-    let start = c .before .before .before .before .before .before .before .before .before .before .before .before .before .before .before .before .before .before .before .before .before .before .before .before .before .before .before .before .before .before .before .before .before .before .before .before .before .before .before .before .before in
+    let start = c .before .before .before .before .before .before .before .before .before .before .before .before .before .before .before .before .before .before .before .before .before .before .before .before .before .before .before .before .before .before .before .before .before .before .before .before .before .before .before .before .before .before .before in
     let ask = start .pre .1 .0 in
-    let few = in-few ask (c .before .before .before .before .before .before .before .before .before .before .before .before .before .before .before .before .before .before .before .before .before .before .move-state .ensures) in
-    (start .pre .1 .1 .1 .1 .0, (omega (arith, few, c .before .before .before .before .before .before .mix-chunk .kept .1 .1 .1 .1 .1 .1 .1 .1 .1 .1 .1 .1 .1 .0, start .pre .1 .1 .1 .1 .1 .1), (few, start .pre .1 .1 .1 .0 .0, start .pre .1 .1 .1 .0 .1)))
+    let few = in-few ask (c .before .before .before .before .before .before .before .before .before .before .before .before .before .before .before .before .before .before .before .before .before .before .move-arrays .ensures) in
+    (start .pre .1 .1 .1 .1 .1 .0, (omega (arith, few, c .before .before .before .before .before .before .mix-chunk .kept .1 .1 .1 .1 .1 .1 .1 .1 .1 .1 .1 .1 .1 .0, start .pre .1 .1 .1 .1 .1 .1 .1), (few, start .pre .1 .1 .1 .1 .0 .0, start .pre .1 .1 .1 .1 .0 .1)))
 
 advance-requires : tie.Need-advance-requires
 unfolding arraysIn framed
 advance-requires c κs =
-    let start = c .before .before .before .before .before .before .before .before .before .before .before .before .before .before .before .before .before .before .before .before .before .before .before .before .before .before .before .before .before .before .before .before .before .before .before .before .before .before .before .before .before .before .before .before .before in
-    in-advance (start .pre .1 .0) (c .before .before .before .before .before .before .before .before .before .before .before .before .before .before .before .before .before .before .before .before .before .before .before .before .before .before .move-state .ensures) (omega (arith, start .good .1 .1 .1 .1 .1 .1 .1 .1 .1 .1 .1 .1 .1 .1 .1 .1 .1 .1 .1 .1 .0 .1), omega (arith, start .good .1 .1 .1 .1 .1 .1 .1 .1 .1 .1 .1 .1 .1 .1 .1 .1 .1 .1 .1 .1 .1 .0 .1))
+    let start = c .before .before .before .before .before .before .before .before .before .before .before .before .before .before .before .before .before .before .before .before .before .before .before .before .before .before .before .before .before .before .before .before .before .before .before .before .before .before .before .before .before .before .before .before .before .before .before in
+    in-advance (start .pre .1 .0) (c .before .before .before .before .before .before .before .before .before .before .before .before .before .before .before .before .before .before .before .before .before .before .before .before .before .before .move-arrays .ensures) (omega (arith, start .good .1 .1 .1 .1 .1 .1 .1 .1 .1 .1 .1 .1 .1 .1 .1 .1 .1 .1 .1 .1 .1 .1 .0 .1), omega (arith, start .good .1 .1 .1 .1 .1 .1 .1 .1 .1 .1 .1 .1 .1 .1 .1 .1 .1 .1 .1 .1 .1 .1 .1 .0 .1))
 
 same-length : tie.Need-same-length
 same-length c = search needs
@@ -73,14 +73,14 @@ same-length-8 c = search needs
 returns : tie.Need-returns
 unfolding arraysIn framed mixedSamples
 returns c =
-    let start = c .before .before .before .before .before .before .before .before .before .before .before .before .before .before .before .before .before .before .before .before .before .before .before .before .before .before .before .before .before .before .before .before .before .before .before .before .before .before .before .before .before .before .before .before .before .before in
+    let start = c .before .before .before .before .before .before .before .before .before .before .before .before .before .before .before .before .before .before .before .before .before .before .before .before .before .before .before .before .before .before .before .before .before .before .before .before .before .before .before .before .before .before .before .before .before .before .before .before in
     let ask = start .pre .1 .0 in
-    let moved = c .before .before .before .before .before .before .before .before .before .before .before .before .before .before .before .before .before .before .before .before .before .before .before .before .before .before .before .move-state in
+    let moved = c .before .before .before .before .before .before .before .before .before .before .before .before .before .before .before .before .before .before .before .before .before .before .before .before .before .before .before .move-arrays in
     let e = moved .ensures in
     let few = in-few ask e in (
       in-after ask e (c .advance .ensures),
       c .before .before .before .before .write-frames .ensures
-          ∙ mix-written (start .args .channels) (start .args .frames) (chunkFrom (moved .last .0) (moved .last .1 .0) (moved .last .1 .1 .0)) (recordings (start .args .samples .now) (start .args .visitor .now)) (start .args .mix .now) (in-frames ask e) (omega (arith, few, start .pre .1 .1 .1 .1 .1 .1)) (c .before .before .before .before .before .before .before .before .before .before .before .mix-chunk .ensures)
+          ∙ mix-written (start .args .channels) (start .args .frames) (chunkFrom (moved .last .0) (moved .last .1 .0) (moved .last .1 .1 .0)) (recordings (start .args .samples .now) (start .args .visitor .now)) (start .args .mix .now) (in-frames ask e) (omega (arith, few, start .pre .1 .1 .1 .1 .1 .1 .1)) (c .before .before .before .before .before .before .before .before .before .before .before .mix-chunk .ensures)
           ∙ in-samples ask e (start .args .channels),
     )
 
@@ -89,7 +89,7 @@ process-chunk-spec =
     tie.close
     (tie.spec
     element-write-places
-    move-state-requires
+    move-arrays-requires
     mix-chunk-requires
     write-frames-requires
     advance-requires

@@ -1,3 +1,4 @@
+use Rattle.clock_store.specs.ClockStore.{clocksFrom}
 use Rattle.parameter_store.specs.Store.{numbers}
 use Rattle.moving_mixer.specs.State.{arrays}
 use Rattle.moving_mixer.proofs.laws.Steps.{levelled-arrays}
@@ -14,7 +15,7 @@ update-parameter-requires c κs = search needs
 
 put-level-requires : tie.Need-put-level-requires
 put-level-requires c κs =
-    c .before .before .before .before .before .before .before .before .before .before .before .before .before .before .before .before .before .before .before .before .before .before .before .before .pre .1 .0
+    c .before .before .before .before .before .before .before .before .before .before .before .before .before .before .before .before .before .before .before .before .before .before .before .before .before .before .pre .1 .0
 
 same-length : tie.Need-same-length
 same-length c = search needs
@@ -34,9 +35,9 @@ same-length-5 c = search needs
 returns : tie.Need-returns
 unfolding putLevel
 returns c =
-    let a = c .before .before .before .before .before .before .before .before .before .before .before .before .before .before .before .before .before .before .before .before .before .before .before .before .before .args in
+    let a = c .before .before .before .before .before .before .before .before .before .before .before .before .before .before .before .before .before .before .before .before .before .before .before .before .before .before .before .args in
     let n = numbers (a .kinds .now) (a .counts .now) (a .shorts .now) (a .values .now) (a .times .now) in
-    λ places amplitudes. levelled-arrays (a .dt) (a .clocks) (a .p) (a .at) (arrays places (a .levels .now) amplitudes n) (c .before .before .before .before .before .before .before .before .before .before .before .before .before .before .before .before .before .before .level-at .ensures) (c .before .before .before .before .before .before .before .before .before .before .before .before .update-parameter .ensures .0) (c .before .before .before .before .before .before .before .before .before .before .before .before .update-parameter .ensures .1) (c .put-level .ensures)
+    λ places amplitudes. levelled-arrays (a .dt) (clocksFrom (a .clocks) (a .ticks .now) (a .positions .now)) (a .p) (a .at) (arrays places (a .levels .now) amplitudes n) (c .before .before .before .before .before .before .before .before .before .before .before .before .before .before .before .before .before .before .level-at .ensures) (c .before .before .before .before .before .before .before .before .before .before .before .before .update-parameter .ensures .0) (c .before .before .before .before .before .before .before .before .before .before .before .before .update-parameter .ensures .1) (c .put-level .ensures)
 
 pub update-levelled-spec : {M : Type 1} → statement M
 update-levelled-spec =

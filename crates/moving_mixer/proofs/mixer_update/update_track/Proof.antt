@@ -1,3 +1,4 @@
+use Rattle.clock_store.specs.ClockStore.{clocksFrom}
 use Rattle.parameter_store.specs.Store.{numbers}
 use Rattle.moving_mixer.specs.State.{arrays}
 use Rattle.moving_mixer.proofs.laws.Steps.{track-reached, track-still}
@@ -16,7 +17,7 @@ live-below-requires c κs = search needs
 
 update-reached-requires : tie.Need-update-reached-requires
 update-reached-requires c κs =
-    (c .before .before .before .before .before .before .before .before .before .before .before .before .before .before .before .before .pre .0, c .before .before .before .before .before .before .before .before .before .before .before .before .before .before .before .before .pre .1 .1)
+    (c .before .before .before .before .before .before .before .before .before .before .before .before .before .before .before .before .before .before .pre .0, c .before .before .before .before .before .before .before .before .before .before .before .before .before .before .before .before .before .before .pre .1 .1)
 
 same-length : tie.Need-same-length
 same-length c = search needs
@@ -35,9 +36,9 @@ same-length-5 c = search needs
 
 returns : tie.Need-returns
 returns c =
-    let a = c .before .before .before .before .before .before .before .before .before .before .before .before .before .before .before .before .before .before .before .before .before .before .before .before .before .before .before .args in
+    let a = c .before .before .before .before .before .before .before .before .before .before .before .before .before .before .before .before .before .before .before .before .before .before .before .before .before .before .before .before .before .args in
     let n = numbers (a .kinds .now) (a .counts .now) (a .shorts .now) (a .values .now) (a .times .now) in
-    λ amplitudes. track-reached (a .dt) (a .clocks) (a .j) (arrays (a .places .now) (a .levels .now) amplitudes n) (c .before .before .before .before .before .before .before .before .before .before .before .before .before .before .before .before .before .before .before .live-below .ensures) (c .before .before .before .before .before .before .before .before .before .before .before .before .before .before .before .before .before .before .if1 .taken) (c .before .before .before .before .before .before .before .before .before .before .update-reached .ensures amplitudes)
+    λ amplitudes. track-reached (a .dt) (clocksFrom (a .clocks) (a .ticks .now) (a .positions .now)) (a .j) (arrays (a .places .now) (a .levels .now) amplitudes n) (c .before .before .before .before .before .before .before .before .before .before .before .before .before .before .before .before .before .before .before .live-below .ensures) (c .before .before .before .before .before .before .before .before .before .before .before .before .before .before .before .before .before .before .if1 .taken) (c .before .before .before .before .before .before .before .before .before .before .update-reached .ensures amplitudes)
 
 add-places : tie.Need-add-places
 add-places c = search needs
@@ -56,9 +57,9 @@ same-length-6 c = search needs
 
 returns-2 : tie.Need-returns-2
 returns-2 c =
-    let a = c .before .before .before .before .before .before .before .before .before .before .before .before .before .args in
+    let a = c .before .before .before .before .before .before .before .before .before .before .before .before .before .before .before .args in
     let n = numbers (a .kinds .now) (a .counts .now) (a .shorts .now) (a .values .now) (a .times .now) in
-    λ amplitudes. track-still (a .dt) (a .clocks) (a .j) (arrays (a .places .now) (a .levels .now) amplitudes n) (c .before .before .before .before .before .live-below .ensures) (c .before .before .before .before .if1 .left) (c .before .before .put-reached .ensures (a .counts .now) (a .shorts .now) (a .values .now) (a .times .now))
+    λ amplitudes. track-still (a .dt) (clocksFrom (a .clocks) (a .ticks .now) (a .positions .now)) (a .j) (arrays (a .places .now) (a .levels .now) amplitudes n) (c .before .before .before .before .before .live-below .ensures) (c .before .before .before .before .if1 .left) (c .before .before .put-reached .ensures (a .counts .now) (a .shorts .now) (a .values .now) (a .times .now))
 
 pub update-track-spec : {M : Type 1} → statement M
 update-track-spec =

@@ -29,7 +29,7 @@ move-state-requires : tie.Need-move-state-requires
 move-state-requires c κs =
     let start = c .before .before .before .before .before .before .before .before .before .before .before .before .before .before .before .before .before .before .before .before .before .before .before .before .before .before .before .before .before .before .before .before in
     let r = start .pre .1 .0 in
-    (start .pre .0, (r .tracks, (r .routes, (r .sends, (r .heard, (r .sized, (r .hour, r .few)))))))
+    (start .pre .0, (r .tracks, (r .routes, (r .sends, (r .heard, (r .sized, (r .hour, r .ticks .laid)))))))
 
 process-block-requires : tie.Need-process-block-requires
 unfolding blockRests

@@ -1,0 +1,15 @@
+use borrow.Author.Needs.{needs}
+use Rattle.clock_store.specs.ClockStore.{flag}
+use Rattle.clock_store.proofs.clock_numbers.flag.Statement.{statement}
+use Rattle.clock_store.proofs.clock_numbers.flag.Tie as tie
+
+returns : tie.Need-returns
+unfolding flag
+returns c = search needs
+
+returns-2 : tie.Need-returns-2
+unfolding flag
+returns-2 c = search needs
+
+pub flag-spec : {M : Type 1} → statement M
+flag-spec = tie.close (tie.spec returns returns-2)
