@@ -5,6 +5,7 @@
     cases.py long SEED COUNT            the same for the library alone, up to 65,536 samples long
     cases.py short SEED COUNT           the same in blocks of few frames, often with many orders
     cases.py fades SEED COUNT           the same of few tracks, whose levels move in chunks of few frames
+    cases.py waits SEED COUNT           the same of tracks that wait in chunks of few frames, in which the main level moves
     cases.py damaged SEED COUNT         input that is refused, of every kind
     cases.py pairs SEED COUNT           two cases for each pair
     cases.py control KIND SEED COUNT    two cases for each control pair
@@ -85,6 +86,8 @@ def asked(words):
             return of_long_scenes(int(seed), int(count), scenes.short_head, scenes.short_orders)
         case ["fades", seed, count]:
             return of_long_scenes(int(seed), int(count), scenes.fading_head, scenes.fading_orders, share=16)
+        case ["waits", seed, count]:
+            return of_long_scenes(int(seed), int(count), scenes.fading_head, scenes.waiting_orders)
         case ["damaged", seed, count]:
             return of_damaged(int(seed), int(count))
         case ["pairs", seed, count]:

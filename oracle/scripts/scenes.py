@@ -269,6 +269,22 @@ def fading_orders(rng, scene, limits):
     return made
 
 
+def waiting_orders(rng, scene, limits):
+    """One change of the main volume for the whole show, and tracks that wait
+    to resume, or changes that wait, by a delay or a clock, for longer than it."""
+    tracks, made = len(scene.tracks), [[0, 0, 0, -20000, 0, 0, 0, 3_600_000, 0, 0]]
+    last = min(1, scene.head[0][4] - 1)
+    for index in range(1, tracks + 1):
+        by_clock = scene.clocks and rng.chance(1, 2)
+        wait = [rng.between(1, len(scene.clocks)), 3_600_000, 0] if by_clock else [0, 3_600_000, 0]
+        if rng.chance(1, 2):
+            made.append([0, 4, index, 0, 0, 0, 0, 0, 0, 0])
+            made.append([last, 5, index, 0, *wait, 10, 0, 0])
+        else:
+            made.append([last, 1, index, -3000, *wait, 10, 0, 0])
+    return made
+
+
 def scene(rng, limits=Limits(), head=head, orders=orders):
     made = Scene(head=[head(rng, limits)])
     tables = made.tables
