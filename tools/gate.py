@@ -2,8 +2,8 @@
 """Where a gate's time goes, crate by crate: tools/gate.py LOG [LATER_LOG] [CRATE ...].
 
 A log is what `.ci/run` prints. The seconds are those that rt prints with each proof and each must-fail
-edit; two run at a time, so that their sum is about twice the gate's time. With two logs both are shown
-side by side; with names of crates, those crates alone and their sum."""
+edit: several run at a time and share the processors, so that their sum is more than the gate's time. With
+two logs both are shown side by side; with names of crates, those crates alone and their sum."""
 import re
 import sys
 
