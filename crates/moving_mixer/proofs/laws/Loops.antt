@@ -18,8 +18,8 @@ use Rattle.moving_mixer.specs.State.{Arrays, arrays, ArraysSized, routeN
 use Rattle.moving_mixer.specs.Update.{trackOn, tracksOn, routeOn, routesOn, sendOn, sendsOn, levelledOn, mixerOn, TracksThere, RoutesThere, RoutesHeard}
 use Rattle.moving_mixer.proofs.laws.Track.{parameter-at}
 use Rattle.moving_mixer.proofs.laws.Tracks.{TracksKept, kept-upto, tracks-kept}
-use Rattle.moving_mixer.proofs.laws.Routes.{RoutesKept, routes-upto, routes-kept, route-yet}
-use Rattle.moving_mixer.proofs.laws.Sends.{SendsKept, sends-upto, sends-kept, levelled-kept}
+use Rattle.moving_mixer.proofs.laws.Routes.{RoutesKept, routes-upto, route-yet}
+use Rattle.moving_mixer.proofs.laws.Sends.{SendsKept, sends-upto}
 
 pub sizedBy : (places : List ℕ) (levels amplitudes : List Float) (n : Numbers) → length places ≡ placesSize → length levels ≡ levelsSize → Sized n → ArraysSized (arrays places levels amplitudes n)
 sizedBy places levels amplitudes n p l s = record { places = p; levels = l; state = s }
@@ -98,15 +98,6 @@ tracks-sends t h = omega (arith, t .places sendCountPlace (λ j d e. omega arith
 module _ (dt : Float) (clocks : Clocks) (a : Arrays) where
   pub tracks-then : {b : Arrays} → ArraysSized a → getD (a .places) trackCountPlace 0 ≤ trackPlaces → b ≡ tracksOn dt clocks a → TracksKept a b
   tracks-then s few e = subst (TracksKept a) (sym e) (tracks-kept dt clocks a s few)
-
-  pub routes-then : {b : Arrays} → Sized (a .state) → getD (a .places) routeCountPlace 0 ≤ routeLines → b ≡ routesOn dt clocks a → RoutesKept a b
-  routes-then s few e = subst (RoutesKept a) (sym e) (routes-kept dt clocks a s few)
-
-  pub sends-then : {b : Arrays} → ArraysSized a → getD (a .places) sendCountPlace 0 ≤ sendLines → b ≡ sendsOn dt clocks a → SendsKept a b
-  sends-then s few e = subst (SendsKept a) (sym e) (sends-kept dt clocks a s few)
-
-  pub main-then : {b : Arrays} → ArraysSized a → b ≡ levelledOn dt clocks mainNumber mainFrom a → ArraysSized b
-  main-then s e = subst ArraysSized (sym e) (levelled-kept dt clocks mainNumber mainFrom a s (omega arith) .sized)
 
   pub mixer-steps : {a₁ a₂ a₃ a₄ : Arrays} → a₁ ≡ tracksOn dt clocks a → a₂ ≡ routesOn dt clocks a₁ → a₃ ≡ sendsOn dt clocks a₂ → a₄ ≡ levelledOn dt clocks mainNumber mainFrom a₃ → a₄ ≡ mixerOn dt clocks a
   unfolding mixerOn

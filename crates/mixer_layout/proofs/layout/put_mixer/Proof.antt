@@ -1,11 +1,9 @@
-use mathlib.Core.Path.{sym, _∙_}
+-- `put_mixer` meets its contract: its four steps, one after another, and no length changes. Assumes nothing.
+use mathlib.Core.Path.{_∙_}
 use native.Mathlib.Omega.{arith}
-use lib.ListN.{getD}
 use borrow.Author.Needs.{needs}
-use Rattle.chunk.specs.Flat.{trackCountPlace, sendCountPlace, routeCountPlace}
 use Rattle.parameter_store.specs.Store.{numbers}
-use Rattle.mixer_layout.proofs.laws.Puts.{tracks-then, routes-then, sends-then, mixer-steps}
-use Rattle.mixer_layout.proofs.laws.Laid.{mixer-then}
+use Rattle.mixer_layout.proofs.laws.Puts.{mixer-steps}
 use Rattle.mixer_layout.proofs.layout.put_mixer.Statement.{statement}
 use Rattle.mixer_layout.proofs.layout.put_mixer.Tie as tie
 
@@ -22,80 +20,88 @@ element-copy-out-route-count c = search needs
 
 put-routes-requires : tie.Need-put-routes-requires
 put-routes-requires c κs =
-    let a = c .before .before .before .before .before .before .before .before .before .before .before .before .before .before .before .before .before .before .before .before .before .before .before .before .before .before .before .before .before .before .args in
-    let m = a .mixer in
-    let t = c .before .before .before .before .before .before .before .before .before .before .before .before .before .before .before .before .before .before .before .before .before .before .before .before .before .before .before .before .before .before .pre in
-    let s₁ = tracks-then (t .1 .1 .1) (m .tracks) (getD (a .places .now) trackCountPlace 0) (c .before .before .before .before .before .before .before .before .before .before .before .before .before .before .before .before .before .put-tracks .ensures) in
-    (t .1 .1 .0, s₁)
+    let p₁ = c .before .before .before .before .before .before .before .before .before .before .before .before .before .before .before .before .before in
+    let start = p₁ .before .before .before .before .before .before .before .before .before .before .before .before .before in
+    let t = start .pre in
+    let s = t .1 .1 .1 in
+    (t .1 .1 .0, record { kinds = p₁ .put-tracks .kept .0 ∙ s .kinds; counts = p₁ .put-tracks .kept .1 .0 ∙ s .counts; shorts = p₁ .put-tracks .kept .1 .1 .0 ∙ s .shorts; values = p₁ .put-tracks .kept .1 .1 .1 .0 ∙ s .values; times = p₁ .put-tracks .kept .1 .1 .1 .1 .0 ∙ s .times })
 
 element-copy-out-send-count : tie.Need-element-copy-out-send-count
 element-copy-out-send-count c = search needs
 
 put-sends-requires : tie.Need-put-sends-requires
 put-sends-requires c κs =
-    let a = c .before .before .before .before .before .before .before .before .before .before .before .before .before .before .before .before .before .before .before .before .before .before .before .before .before .before .before .before .before .before .before .before .before .before .before .before .before .before .before .before .before .before .before .before .before .before .before .before .args in
-    let m = a .mixer in
-    let t = c .before .before .before .before .before .before .before .before .before .before .before .before .before .before .before .before .before .before .before .before .before .before .before .before .before .before .before .before .before .before .before .before .before .before .before .before .before .before .before .before .before .before .before .before .before .before .before .before .pre in
-    let s₁ = tracks-then (t .1 .1 .1) (m .tracks) (getD (a .places .now) trackCountPlace 0) (c .before .before .before .before .before .before .before .before .before .before .before .before .before .before .before .before .before .before .before .before .before .before .before .before .before .before .before .before .before .before .before .before .before .before .before .put-tracks .ensures) in
-    let s₂ = routes-then s₁ (m .routes) (getD (a .places .now) routeCountPlace 0) (c .before .before .before .before .before .before .before .before .before .before .before .before .before .before .before .before .before .put-routes .ensures) in
-    (t .1 .0, s₂)
+    let p₂ = c .before .before .before .before .before .before .before .before .before .before .before .before .before .before .before .before .before in
+    let p₁ = p₂ .before .before .before .before .before .before .before .before .before .before .before .before .before .before .before .before .before .before in
+    let start = p₁ .before .before .before .before .before .before .before .before .before .before .before .before .before in
+    let t = start .pre in
+    let s = t .1 .1 .1 in
+    (t .1 .0, record { kinds = p₂ .put-routes .kept .0 ∙ p₁ .put-tracks .kept .0 ∙ s .kinds; counts = p₂ .put-routes .kept .1 .0 ∙ p₁ .put-tracks .kept .1 .0 ∙ s .counts; shorts = p₂ .put-routes .kept .1 .1 .0 ∙ p₁ .put-tracks .kept .1 .1 .0 ∙ s .shorts; values = p₂ .put-routes .kept .1 .1 .1 .0 ∙ p₁ .put-tracks .kept .1 .1 .1 .0 ∙ s .values; times = p₂ .put-routes .kept .1 .1 .1 .1 .0 ∙ p₁ .put-tracks .kept .1 .1 .1 .1 .0 ∙ s .times })
 
 put-parameter-requires : tie.Need-put-parameter-requires
 put-parameter-requires c κs =
-    let a = c .before .before .before .before .before .before .before .before .before .before .before .before .before .before .before .before .before .before .before .before .before .before .before .before .before .before .before .before .before .before .before .before .before .before .before .before .before .before .before .before .before .before .before .before .before .before .before .before .before .before .before .before .before .before .before .before .before .before .before .before .before .before .before .before .before .args in
-    let m = a .mixer in
-    let t = c .before .before .before .before .before .before .before .before .before .before .before .before .before .before .before .before .before .before .before .before .before .before .before .before .before .before .before .before .before .before .before .before .before .before .before .before .before .before .before .before .before .before .before .before .before .before .before .before .before .before .before .before .before .before .before .before .before .before .before .before .before .before .before .before .before .pre in
-    let s₁ = tracks-then (t .1 .1 .1) (m .tracks) (getD (a .places .now) trackCountPlace 0) (c .before .before .before .before .before .before .before .before .before .before .before .before .before .before .before .before .before .before .before .before .before .before .before .before .before .before .before .before .before .before .before .before .before .before .before .before .before .before .before .before .before .before .before .before .before .before .before .before .before .before .before .before .put-tracks .ensures) in
-    let s₂ = routes-then s₁ (m .routes) (getD (a .places .now) routeCountPlace 0) (c .before .before .before .before .before .before .before .before .before .before .before .before .before .before .before .before .before .before .before .before .before .before .before .before .before .before .before .before .before .before .before .before .before .before .put-routes .ensures) in
-    let s₃ = sends-then s₂ (m .sends) (getD (a .places .now) sendCountPlace 0) (c .before .before .before .before .before .before .before .before .before .before .before .before .before .before .before .before .put-sends .ensures) in
-    (omega arith, (s₃ .kinds, (s₃ .counts, (s₃ .shorts, (s₃ .values, s₃ .times)))))
+    let p₃ = c .before .before .before .before .before .before .before .before .before .before .before .before .before .before .before .before in
+    let p₂ = p₃ .before .before .before .before .before .before .before .before .before .before .before .before .before .before .before .before .before .before in
+    let p₁ = p₂ .before .before .before .before .before .before .before .before .before .before .before .before .before .before .before .before .before .before in
+    let start = p₁ .before .before .before .before .before .before .before .before .before .before .before .before .before in
+    let s = start .pre .1 .1 .1 in
+    (omega arith, (p₃ .put-sends .kept .0 ∙ p₂ .put-routes .kept .0 ∙ p₁ .put-tracks .kept .0 ∙ s .kinds, (p₃ .put-sends .kept .1 .0 ∙ p₂ .put-routes .kept .1 .0 ∙ p₁ .put-tracks .kept .1 .0 ∙ s .counts, (p₃ .put-sends .kept .1 .1 .0 ∙ p₂ .put-routes .kept .1 .1 .0 ∙ p₁ .put-tracks .kept .1 .1 .0 ∙ s .shorts, (p₃ .put-sends .kept .1 .1 .1 .0 ∙ p₂ .put-routes .kept .1 .1 .1 .0 ∙ p₁ .put-tracks .kept .1 .1 .1 .0 ∙ s .values, p₃ .put-sends .kept .1 .1 .1 .1 .0 ∙ p₂ .put-routes .kept .1 .1 .1 .1 .0 ∙ p₁ .put-tracks .kept .1 .1 .1 .1 .0 ∙ s .times)))))
 
 same-length : tie.Need-same-length
 same-length c =
-    let a = c .before .before .before .before .before .before .before .before .before .before .before .before .before .before .before .before .before .before .before .before .before .before .before .before .before .before .before .before .before .before .before .before .before .before .before .before .before .before .before .before .before .before .before .before .before .before .before .before .before .before .before .before .before .before .before .before .before .before .before .before .before .before .before .before .before .before .before .before .before .before .before .before .before .before .before .before .args in
-    let m = a .mixer in
-    let n = numbers (a .kinds .now) (a .counts .now) (a .shorts .now) (a .values .now) (a .times .now) in
-    let s = c .before .before .before .before .before .before .before .before .before .before .before .before .before .before .before .before .before .before .before .before .before .before .before .before .before .before .before .before .before .before .before .before .before .before .before .before .before .before .before .before .before .before .before .before .before .before .before .before .before .before .before .before .before .before .before .before .before .before .before .before .before .before .before .before .before .before .before .before .before .before .before .before .before .before .before .before .pre .1 .1 .1 in
-    mixer-then m (a .places .now) s (mixer-steps m (a .places .now) n (c .before .before .before .before .before .before .before .before .before .before .before .before .before .before .before .before .before .before .before .before .before .before .before .before .before .before .before .before .before .before .before .before .before .before .before .before .before .before .before .before .before .before .before .before .before .before .before .before .before .before .before .before .before .before .before .before .before .before .before .before .before .before .before .put-tracks .ensures) (c .before .before .before .before .before .before .before .before .before .before .before .before .before .before .before .before .before .before .before .before .before .before .before .before .before .before .before .before .before .before .before .before .before .before .before .before .before .before .before .before .before .before .before .before .before .put-routes .ensures) (c .before .before .before .before .before .before .before .before .before .before .before .before .before .before .before .before .before .before .before .before .before .before .before .before .before .before .before .put-sends .ensures) (c .before .before .before .before .before .before .before .before .before .before .put-parameter .ensures)) .kinds ∙ sym (s .kinds)
+    let p₄ = c .before .before .before .before .before .before .before .before .before .before in
+    let p₃ = p₄ .before .before .before .before .before .before .before .before .before .before .before .before .before .before .before .before .before in
+    let p₂ = p₃ .before .before .before .before .before .before .before .before .before .before .before .before .before .before .before .before .before .before in
+    let p₁ = p₂ .before .before .before .before .before .before .before .before .before .before .before .before .before .before .before .before .before .before in
+    p₄ .put-parameter .kept .0 ∙ p₃ .put-sends .kept .0 ∙ p₂ .put-routes .kept .0 ∙ p₁ .put-tracks .kept .0
 
 same-length-2 : tie.Need-same-length-2
 same-length-2 c =
-    let a = c .before .before .before .before .before .before .before .before .before .before .before .before .before .before .before .before .before .before .before .before .before .before .before .before .before .before .before .before .before .before .before .before .before .before .before .before .before .before .before .before .before .before .before .before .before .before .before .before .before .before .before .before .before .before .before .before .before .before .before .before .before .before .before .before .before .before .before .before .before .before .before .before .before .before .before .before .args in
-    let m = a .mixer in
-    let n = numbers (a .kinds .now) (a .counts .now) (a .shorts .now) (a .values .now) (a .times .now) in
-    let s = c .before .before .before .before .before .before .before .before .before .before .before .before .before .before .before .before .before .before .before .before .before .before .before .before .before .before .before .before .before .before .before .before .before .before .before .before .before .before .before .before .before .before .before .before .before .before .before .before .before .before .before .before .before .before .before .before .before .before .before .before .before .before .before .before .before .before .before .before .before .before .before .before .before .before .before .before .pre .1 .1 .1 in
-    mixer-then m (a .places .now) s (mixer-steps m (a .places .now) n (c .before .before .before .before .before .before .before .before .before .before .before .before .before .before .before .before .before .before .before .before .before .before .before .before .before .before .before .before .before .before .before .before .before .before .before .before .before .before .before .before .before .before .before .before .before .before .before .before .before .before .before .before .before .before .before .before .before .before .before .before .before .before .before .put-tracks .ensures) (c .before .before .before .before .before .before .before .before .before .before .before .before .before .before .before .before .before .before .before .before .before .before .before .before .before .before .before .before .before .before .before .before .before .before .before .before .before .before .before .before .before .before .before .before .before .put-routes .ensures) (c .before .before .before .before .before .before .before .before .before .before .before .before .before .before .before .before .before .before .before .before .before .before .before .before .before .before .before .put-sends .ensures) (c .before .before .before .before .before .before .before .before .before .before .put-parameter .ensures)) .counts ∙ sym (s .counts)
+    let p₄ = c .before .before .before .before .before .before .before .before .before .before in
+    let p₃ = p₄ .before .before .before .before .before .before .before .before .before .before .before .before .before .before .before .before .before in
+    let p₂ = p₃ .before .before .before .before .before .before .before .before .before .before .before .before .before .before .before .before .before .before in
+    let p₁ = p₂ .before .before .before .before .before .before .before .before .before .before .before .before .before .before .before .before .before .before in
+    p₄ .put-parameter .kept .1 .0 ∙ p₃ .put-sends .kept .1 .0 ∙ p₂ .put-routes .kept .1 .0 ∙ p₁ .put-tracks .kept .1 .0
 
 same-length-3 : tie.Need-same-length-3
 same-length-3 c =
-    let a = c .before .before .before .before .before .before .before .before .before .before .before .before .before .before .before .before .before .before .before .before .before .before .before .before .before .before .before .before .before .before .before .before .before .before .before .before .before .before .before .before .before .before .before .before .before .before .before .before .before .before .before .before .before .before .before .before .before .before .before .before .before .before .before .before .before .before .before .before .before .before .before .before .before .before .before .before .args in
-    let m = a .mixer in
-    let n = numbers (a .kinds .now) (a .counts .now) (a .shorts .now) (a .values .now) (a .times .now) in
-    let s = c .before .before .before .before .before .before .before .before .before .before .before .before .before .before .before .before .before .before .before .before .before .before .before .before .before .before .before .before .before .before .before .before .before .before .before .before .before .before .before .before .before .before .before .before .before .before .before .before .before .before .before .before .before .before .before .before .before .before .before .before .before .before .before .before .before .before .before .before .before .before .before .before .before .before .before .before .pre .1 .1 .1 in
-    mixer-then m (a .places .now) s (mixer-steps m (a .places .now) n (c .before .before .before .before .before .before .before .before .before .before .before .before .before .before .before .before .before .before .before .before .before .before .before .before .before .before .before .before .before .before .before .before .before .before .before .before .before .before .before .before .before .before .before .before .before .before .before .before .before .before .before .before .before .before .before .before .before .before .before .before .before .before .before .put-tracks .ensures) (c .before .before .before .before .before .before .before .before .before .before .before .before .before .before .before .before .before .before .before .before .before .before .before .before .before .before .before .before .before .before .before .before .before .before .before .before .before .before .before .before .before .before .before .before .before .put-routes .ensures) (c .before .before .before .before .before .before .before .before .before .before .before .before .before .before .before .before .before .before .before .before .before .before .before .before .before .before .before .put-sends .ensures) (c .before .before .before .before .before .before .before .before .before .before .put-parameter .ensures)) .shorts ∙ sym (s .shorts)
+    let p₄ = c .before .before .before .before .before .before .before .before .before .before in
+    let p₃ = p₄ .before .before .before .before .before .before .before .before .before .before .before .before .before .before .before .before .before in
+    let p₂ = p₃ .before .before .before .before .before .before .before .before .before .before .before .before .before .before .before .before .before .before in
+    let p₁ = p₂ .before .before .before .before .before .before .before .before .before .before .before .before .before .before .before .before .before .before in
+    p₄ .put-parameter .kept .1 .1 .0 ∙ p₃ .put-sends .kept .1 .1 .0 ∙ p₂ .put-routes .kept .1 .1 .0 ∙ p₁ .put-tracks .kept .1 .1 .0
 
 same-length-4 : tie.Need-same-length-4
 same-length-4 c =
-    let a = c .before .before .before .before .before .before .before .before .before .before .before .before .before .before .before .before .before .before .before .before .before .before .before .before .before .before .before .before .before .before .before .before .before .before .before .before .before .before .before .before .before .before .before .before .before .before .before .before .before .before .before .before .before .before .before .before .before .before .before .before .before .before .before .before .before .before .before .before .before .before .before .before .before .before .before .before .args in
-    let m = a .mixer in
-    let n = numbers (a .kinds .now) (a .counts .now) (a .shorts .now) (a .values .now) (a .times .now) in
-    let s = c .before .before .before .before .before .before .before .before .before .before .before .before .before .before .before .before .before .before .before .before .before .before .before .before .before .before .before .before .before .before .before .before .before .before .before .before .before .before .before .before .before .before .before .before .before .before .before .before .before .before .before .before .before .before .before .before .before .before .before .before .before .before .before .before .before .before .before .before .before .before .before .before .before .before .before .before .pre .1 .1 .1 in
-    mixer-then m (a .places .now) s (mixer-steps m (a .places .now) n (c .before .before .before .before .before .before .before .before .before .before .before .before .before .before .before .before .before .before .before .before .before .before .before .before .before .before .before .before .before .before .before .before .before .before .before .before .before .before .before .before .before .before .before .before .before .before .before .before .before .before .before .before .before .before .before .before .before .before .before .before .before .before .before .put-tracks .ensures) (c .before .before .before .before .before .before .before .before .before .before .before .before .before .before .before .before .before .before .before .before .before .before .before .before .before .before .before .before .before .before .before .before .before .before .before .before .before .before .before .before .before .before .before .before .before .put-routes .ensures) (c .before .before .before .before .before .before .before .before .before .before .before .before .before .before .before .before .before .before .before .before .before .before .before .before .before .before .before .put-sends .ensures) (c .before .before .before .before .before .before .before .before .before .before .put-parameter .ensures)) .values ∙ sym (s .values)
+    let p₄ = c .before .before .before .before .before .before .before .before .before .before in
+    let p₃ = p₄ .before .before .before .before .before .before .before .before .before .before .before .before .before .before .before .before .before in
+    let p₂ = p₃ .before .before .before .before .before .before .before .before .before .before .before .before .before .before .before .before .before .before in
+    let p₁ = p₂ .before .before .before .before .before .before .before .before .before .before .before .before .before .before .before .before .before .before in
+    p₄ .put-parameter .kept .1 .1 .1 .0 ∙ p₃ .put-sends .kept .1 .1 .1 .0 ∙ p₂ .put-routes .kept .1 .1 .1 .0 ∙ p₁ .put-tracks .kept .1 .1 .1 .0
 
 same-length-5 : tie.Need-same-length-5
 same-length-5 c =
-    let a = c .before .before .before .before .before .before .before .before .before .before .before .before .before .before .before .before .before .before .before .before .before .before .before .before .before .before .before .before .before .before .before .before .before .before .before .before .before .before .before .before .before .before .before .before .before .before .before .before .before .before .before .before .before .before .before .before .before .before .before .before .before .before .before .before .before .before .before .before .before .before .before .before .before .before .before .before .args in
-    let m = a .mixer in
-    let n = numbers (a .kinds .now) (a .counts .now) (a .shorts .now) (a .values .now) (a .times .now) in
-    let s = c .before .before .before .before .before .before .before .before .before .before .before .before .before .before .before .before .before .before .before .before .before .before .before .before .before .before .before .before .before .before .before .before .before .before .before .before .before .before .before .before .before .before .before .before .before .before .before .before .before .before .before .before .before .before .before .before .before .before .before .before .before .before .before .before .before .before .before .before .before .before .before .before .before .before .before .before .pre .1 .1 .1 in
-    mixer-then m (a .places .now) s (mixer-steps m (a .places .now) n (c .before .before .before .before .before .before .before .before .before .before .before .before .before .before .before .before .before .before .before .before .before .before .before .before .before .before .before .before .before .before .before .before .before .before .before .before .before .before .before .before .before .before .before .before .before .before .before .before .before .before .before .before .before .before .before .before .before .before .before .before .before .before .before .put-tracks .ensures) (c .before .before .before .before .before .before .before .before .before .before .before .before .before .before .before .before .before .before .before .before .before .before .before .before .before .before .before .before .before .before .before .before .before .before .before .before .before .before .before .before .before .before .before .before .before .put-routes .ensures) (c .before .before .before .before .before .before .before .before .before .before .before .before .before .before .before .before .before .before .before .before .before .before .before .before .before .before .before .put-sends .ensures) (c .before .before .before .before .before .before .before .before .before .before .put-parameter .ensures)) .times ∙ sym (s .times)
+    let p₄ = c .before .before .before .before .before .before .before .before .before .before in
+    let p₃ = p₄ .before .before .before .before .before .before .before .before .before .before .before .before .before .before .before .before .before in
+    let p₂ = p₃ .before .before .before .before .before .before .before .before .before .before .before .before .before .before .before .before .before .before in
+    let p₁ = p₂ .before .before .before .before .before .before .before .before .before .before .before .before .before .before .before .before .before .before in
+    p₄ .put-parameter .kept .1 .1 .1 .1 .0 ∙ p₃ .put-sends .kept .1 .1 .1 .1 .0 ∙ p₂ .put-routes .kept .1 .1 .1 .1 .0 ∙ p₁ .put-tracks .kept .1 .1 .1 .1 .0
 
 returns : tie.Need-returns
 returns c =
-    let a = c .before .before .before .before .before .before .before .before .before .before .before .before .before .before .before .before .before .before .before .before .before .before .before .before .before .before .before .before .before .before .before .before .before .before .before .before .before .before .before .before .before .before .before .before .before .before .before .before .before .before .before .before .before .before .before .before .before .before .before .before .before .before .before .before .before .before .before .before .before .before .before .before .before .before .before .before .args in
-    let m = a .mixer in
-    let n = numbers (a .kinds .now) (a .counts .now) (a .shorts .now) (a .values .now) (a .times .now) in
-    mixer-steps m (a .places .now) n (c .before .before .before .before .before .before .before .before .before .before .before .before .before .before .before .before .before .before .before .before .before .before .before .before .before .before .before .before .before .before .before .before .before .before .before .before .before .before .before .before .before .before .before .before .before .before .before .before .before .before .before .before .before .before .before .before .before .before .before .before .before .before .before .put-tracks .ensures) (c .before .before .before .before .before .before .before .before .before .before .before .before .before .before .before .before .before .before .before .before .before .before .before .before .before .before .before .before .before .before .before .before .before .before .before .before .before .before .before .before .before .before .before .before .before .put-routes .ensures) (c .before .before .before .before .before .before .before .before .before .before .before .before .before .before .before .before .before .before .before .before .before .before .before .before .before .before .before .put-sends .ensures) (c .before .before .before .before .before .before .before .before .before .before .put-parameter .ensures)
+    let p₄ = c .before .before .before .before .before .before .before .before .before .before in
+    let p₃ = p₄ .before .before .before .before .before .before .before .before .before .before .before .before .before .before .before .before .before in
+    let p₂ = p₃ .before .before .before .before .before .before .before .before .before .before .before .before .before .before .before .before .before .before in
+    let p₁ = p₂ .before .before .before .before .before .before .before .before .before .before .before .before .before .before .before .before .before .before in
+    let start = p₁ .before .before .before .before .before .before .before .before .before .before .before .before .before in
+    let a = start .args in
+    let x = p₁ .put-tracks .last in
+    let y = p₂ .put-routes .last in
+    let z = p₃ .put-sends .last in
+    let w = p₄ .put-parameter .last in
+    mixer-steps (a .mixer) (a .places .now) (numbers (a .kinds .now) (a .counts .now) (a .shorts .now) (a .values .now) (a .times .now))
+    {n₁ = numbers (x .0) (x .1 .0) (x .1 .1 .0) (x .1 .1 .1 .0) (x .1 .1 .1 .1 .0)} {n₂ = numbers (y .0) (y .1 .0) (y .1 .1 .0) (y .1 .1 .1 .0) (y .1 .1 .1 .1 .0)} {n₃ = numbers (z .0) (z .1 .0) (z .1 .1 .0) (z .1 .1 .1 .0) (z .1 .1 .1 .1 .0)} {n₄ = numbers (w .0) (w .1 .0) (w .1 .1 .0) (w .1 .1 .1 .0) (w .1 .1 .1 .1 .0)}
+    (p₁ .put-tracks .ensures) (p₂ .put-routes .ensures) (p₃ .put-sends .ensures) (p₄ .put-parameter .ensures)
 
 pub put-mixer-spec : {M : Type 1} → statement M
 put-mixer-spec =

@@ -1,9 +1,10 @@
-use mathlib.Core.Path.{sym, _∙_}
+-- `update` meets its contract: its four steps, one after another, and no length changes. Assumes nothing.
+use mathlib.Core.Path.{_∙_}
 use native.Mathlib.Omega.{arith}
 use Rattle.clock_store.specs.ClockStore.{clocksFrom}
 use Rattle.parameter_store.specs.Store.{numbers}
 use Rattle.moving_mixer.specs.State.{arrays}
-use Rattle.moving_mixer.proofs.laws.Loops.{sizedBy, tracks-heard, tracks-routes, tracks-sends, tracks-then, routes-then, sends-then, main-then, mixer-steps}
+use Rattle.moving_mixer.proofs.laws.Loops.{sizedBy, tracks-heard, tracks-routes, tracks-sends, tracks-then, mixer-steps}
 use Rattle.moving_mixer.proofs.mixer_update.update.Statement.{statement}
 use Rattle.moving_mixer.proofs.mixer_update.update.Tie as tie
 
@@ -14,182 +15,102 @@ update-tracks-requires c κs =
 
 update-routes-requires : tie.Need-update-routes-requires
 update-routes-requires c κs =
-    let a = c .before .before .before .before .before .before .before .before .before .before .before .before .before .before .before .before .before .before .before .before .before .before .before .before .before .before .before .before .before .before .before .before .args in
-    let n = numbers (a .kinds .now) (a .counts .now) (a .shorts .now) (a .values .now) (a .times .now) in
-    let t = c .before .before .before .before .before .before .before .before .before .before .before .before .before .before .before .before .before .before .before .before .before .before .before .before .before .before .before .before .before .before .before .before .pre in
+    let p₁ = c .before .before .before .before .before .before .before .before .before .before .before .before .before .before .before .before .before in
+    let start = p₁ .before .before .before .before .before .before .before .before .before .before .before .before .before .before .before in
+    let a = start .args in
+    let t = start .pre in
     let h = t .1 .1 .1 .1 .1 in
+    let n = numbers (a .kinds .now) (a .counts .now) (a .shorts .now) (a .values .now) (a .times .now) in
     let a₀ = arrays (a .places .now) (a .levels .now) (a .amplitudes .now) n in
-    let sized = sizedBy (a .places .now) (a .levels .now) (a .amplitudes .now) n (h .0) (h .1 .0) (h .1 .1 .0) in
-    let e₁ = c .before .before .before .before .before .before .before .before .before .before .before .before .before .before .before .before .before .update-tracks .ensures (a .amplitudes .now) in
-    let k₁ = tracks-then (a .dt) (clocksFrom (a .clocks) (a .ticks .now) (a .positions .now)) a₀ sized (t .1 .0 .few) e₁ in
-    (t .0, (tracks-routes k₁ (t .1 .1 .0), (tracks-heard (a .dt) (clocksFrom (a .clocks) (a .ticks .now) (a .positions .now)) k₁ (t .1 .1 .0 .few) (t .1 .1 .1 .1 .0), (k₁ .sized .places, (k₁ .sized .state, h .1 .1 .1)))))
+    let x = p₁ .update-tracks .last in
+    let a₁ = arrays (x .0) (x .1 .0) (a .amplitudes .now) (numbers (x .1 .1 .0) (x .1 .1 .1 .0) (x .1 .1 .1 .1 .0) (x .1 .1 .1 .1 .1 .0) (x .1 .1 .1 .1 .1 .1 .0)) in
+    let k₁ = tracks-then (a .dt) (clocksFrom (a .clocks) (a .ticks .now) (a .positions .now)) a₀ {b = a₁} (sizedBy (a .places .now) (a .levels .now) (a .amplitudes .now) n (h .0) (h .1 .0) (h .1 .1 .0)) (t .1 .0 .few) (p₁ .update-tracks .ensures (a .amplitudes .now)) in
+    (t .0, (tracks-routes {b = a₁} k₁ (t .1 .1 .0), (tracks-heard (a .dt) (clocksFrom (a .clocks) (a .ticks .now) (a .positions .now)) {b = a₁} k₁ (t .1 .1 .0 .few) (t .1 .1 .1 .1 .0), (k₁ .sized .places, (k₁ .sized .state, h .1 .1 .1)))))
 
 update-sends-requires : tie.Need-update-sends-requires
 update-sends-requires c κs =
-    let a = c .before .before .before .before .before .before .before .before .before .before .before .before .before .before .before .before .before .before .before .before .before .before .before .before .before .before .before .before .before .before .before .before .before .before .before .before .before .before .before .before .before .before .before .before .before .before .before .before .before .before .args in
-    let n = numbers (a .kinds .now) (a .counts .now) (a .shorts .now) (a .values .now) (a .times .now) in
-    let t = c .before .before .before .before .before .before .before .before .before .before .before .before .before .before .before .before .before .before .before .before .before .before .before .before .before .before .before .before .before .before .before .before .before .before .before .before .before .before .before .before .before .before .before .before .before .before .before .before .before .before .pre in
+    let p₂ = c .before .before .before .before .before .before .before .before .before .before .before .before .before .before .before .before .before in
+    let p₁ = p₂ .before .before .before .before .before .before .before .before .before .before .before .before .before .before .before .before .before .before in
+    let start = p₁ .before .before .before .before .before .before .before .before .before .before .before .before .before .before .before in
+    let a = start .args in
+    let t = start .pre in
     let h = t .1 .1 .1 .1 .1 in
+    let n = numbers (a .kinds .now) (a .counts .now) (a .shorts .now) (a .values .now) (a .times .now) in
     let a₀ = arrays (a .places .now) (a .levels .now) (a .amplitudes .now) n in
-    let sized = sizedBy (a .places .now) (a .levels .now) (a .amplitudes .now) n (h .0) (h .1 .0) (h .1 .1 .0) in
-    let e₁ = c .before .before .before .before .before .before .before .before .before .before .before .before .before .before .before .before .before .before .before .before .before .before .before .before .before .before .before .before .before .before .before .before .before .before .before .update-tracks .ensures (a .amplitudes .now) in
-    let k₁ = tracks-then (a .dt) (clocksFrom (a .clocks) (a .ticks .now) (a .positions .now)) a₀ sized (t .1 .0 .few) e₁ in
-    let x = c .before .before .before .before .before .before .before .before .before .before .before .before .before .before .before .before .before .before .before .before .before .before .before .before .before .before .before .before .before .before .before .before .before .before .before .update-tracks .last in
+    let x = p₁ .update-tracks .last in
     let a₁ = arrays (x .0) (x .1 .0) (a .amplitudes .now) (numbers (x .1 .1 .0) (x .1 .1 .1 .0) (x .1 .1 .1 .1 .0) (x .1 .1 .1 .1 .1 .0) (x .1 .1 .1 .1 .1 .1 .0)) in
-    let e₂ = c .before .before .before .before .before .before .before .before .before .before .before .before .before .before .before .before .before .update-routes .ensures (x .1 .0) in
-    let k₂ = routes-then (a .dt) (clocksFrom (a .clocks) (a .ticks .now) (a .positions .now)) a₁ (k₁ .sized .state) (tracks-routes k₁ (t .1 .1 .0) .few) e₂ in
-    let y = c .before .before .before .before .before .before .before .before .before .before .before .before .before .before .before .before .before .update-routes .last in
-    let n₂ = numbers (y .1 .1 .0) (y .1 .1 .1 .0) (y .1 .1 .1 .1 .0) (y .1 .1 .1 .1 .1 .0) (y .1 .1 .1 .1 .1 .1 .0) in
-    (tracks-sends k₁ (t .1 .1 .1 .0), (k₁ .sized .places, (k₁ .sized .levels, (k₂ .sized, h .1 .1 .1))))
+    let k₁ = tracks-then (a .dt) (clocksFrom (a .clocks) (a .ticks .now) (a .positions .now)) a₀ {b = a₁} (sizedBy (a .places .now) (a .levels .now) (a .amplitudes .now) n (h .0) (h .1 .0) (h .1 .1 .0)) (t .1 .0 .few) (p₁ .update-tracks .ensures (a .amplitudes .now)) in
+    let s = k₁ .sized .state in
+    (tracks-sends {b = a₁} k₁ (t .1 .1 .1 .0), (k₁ .sized .places, (k₁ .sized .levels, (record { kinds = p₂ .update-routes .kept .1 .1 .0 ∙ s .kinds; counts = p₂ .update-routes .kept .1 .1 .1 .0 ∙ s .counts; shorts = p₂ .update-routes .kept .1 .1 .1 .1 .0 ∙ s .shorts; values = p₂ .update-routes .kept .1 .1 .1 .1 .1 .0 ∙ s .values; times = p₂ .update-routes .kept .1 .1 .1 .1 .1 .1 .0 ∙ s .times }, h .1 .1 .1))))
 
 update-levelled-requires : tie.Need-update-levelled-requires
 update-levelled-requires c κs =
-    let a = c .before .before .before .before .before .before .before .before .before .before .before .before .before .before .before .before .before .before .before .before .before .before .before .before .before .before .before .before .before .before .before .before .before .before .before .before .before .before .before .before .before .before .before .before .before .before .before .before .before .before .before .before .before .before .before .before .before .before .before .before .before .before .before .before .before .before .before .args in
-    let n = numbers (a .kinds .now) (a .counts .now) (a .shorts .now) (a .values .now) (a .times .now) in
-    let t = c .before .before .before .before .before .before .before .before .before .before .before .before .before .before .before .before .before .before .before .before .before .before .before .before .before .before .before .before .before .before .before .before .before .before .before .before .before .before .before .before .before .before .before .before .before .before .before .before .before .before .before .before .before .before .before .before .before .before .before .before .before .before .before .before .before .before .before .pre in
-    let h = t .1 .1 .1 .1 .1 in
-    let a₀ = arrays (a .places .now) (a .levels .now) (a .amplitudes .now) n in
-    let sized = sizedBy (a .places .now) (a .levels .now) (a .amplitudes .now) n (h .0) (h .1 .0) (h .1 .1 .0) in
-    let e₁ = c .before .before .before .before .before .before .before .before .before .before .before .before .before .before .before .before .before .before .before .before .before .before .before .before .before .before .before .before .before .before .before .before .before .before .before .before .before .before .before .before .before .before .before .before .before .before .before .before .before .before .before .before .update-tracks .ensures (a .amplitudes .now) in
-    let k₁ = tracks-then (a .dt) (clocksFrom (a .clocks) (a .ticks .now) (a .positions .now)) a₀ sized (t .1 .0 .few) e₁ in
-    let x = c .before .before .before .before .before .before .before .before .before .before .before .before .before .before .before .before .before .before .before .before .before .before .before .before .before .before .before .before .before .before .before .before .before .before .before .before .before .before .before .before .before .before .before .before .before .before .before .before .before .before .before .before .update-tracks .last in
-    let a₁ = arrays (x .0) (x .1 .0) (a .amplitudes .now) (numbers (x .1 .1 .0) (x .1 .1 .1 .0) (x .1 .1 .1 .1 .0) (x .1 .1 .1 .1 .1 .0) (x .1 .1 .1 .1 .1 .1 .0)) in
-    let e₂ = c .before .before .before .before .before .before .before .before .before .before .before .before .before .before .before .before .before .before .before .before .before .before .before .before .before .before .before .before .before .before .before .before .before .before .update-routes .ensures (x .1 .0) in
-    let k₂ = routes-then (a .dt) (clocksFrom (a .clocks) (a .ticks .now) (a .positions .now)) a₁ (k₁ .sized .state) (tracks-routes k₁ (t .1 .1 .0) .few) e₂ in
-    let y = c .before .before .before .before .before .before .before .before .before .before .before .before .before .before .before .before .before .before .before .before .before .before .before .before .before .before .before .before .before .before .before .before .before .before .update-routes .last in
-    let n₂ = numbers (y .1 .1 .0) (y .1 .1 .1 .0) (y .1 .1 .1 .1 .0) (y .1 .1 .1 .1 .1 .0) (y .1 .1 .1 .1 .1 .1 .0) in
-    let a₂ = arrays (x .0) (x .1 .0) (y .1 .0) n₂ in
-    let e₃ = c .before .before .before .before .before .before .before .before .before .before .before .before .before .before .before .before .update-sends .ensures (y .1 .0) in
-    let k₃ = sends-then (a .dt) (clocksFrom (a .clocks) (a .ticks .now) (a .positions .now)) a₂ (sizedBy (x .0) (x .1 .0) (y .1 .0) n₂ (k₁ .sized .places) (k₁ .sized .levels) (k₂ .sized)) (tracks-sends k₁ (t .1 .1 .1 .0)) e₃ in
-    (omega arith, (omega arith, (k₃ .sized .state, h .1 .1 .1)))
+    let p₃ = c .before .before .before .before .before .before .before .before .before .before .before .before .before .before .before .before in
+    let p₂ = p₃ .before .before .before .before .before .before .before .before .before .before .before .before .before .before .before .before .before .before in
+    let p₁ = p₂ .before .before .before .before .before .before .before .before .before .before .before .before .before .before .before .before .before .before in
+    let start = p₁ .before .before .before .before .before .before .before .before .before .before .before .before .before .before .before in
+    let h = start .pre .1 .1 .1 .1 .1 in
+    let s = h .1 .1 .0 in
+    (omega arith, (omega arith, (record { kinds = p₃ .update-sends .kept .1 .1 .0 ∙ p₂ .update-routes .kept .1 .1 .0 ∙ p₁ .update-tracks .kept .1 .1 .0 ∙ s .kinds; counts = p₃ .update-sends .kept .1 .1 .1 .0 ∙ p₂ .update-routes .kept .1 .1 .1 .0 ∙ p₁ .update-tracks .kept .1 .1 .1 .0 ∙ s .counts; shorts = p₃ .update-sends .kept .1 .1 .1 .1 .0 ∙ p₂ .update-routes .kept .1 .1 .1 .1 .0 ∙ p₁ .update-tracks .kept .1 .1 .1 .1 .0 ∙ s .shorts; values = p₃ .update-sends .kept .1 .1 .1 .1 .1 .0 ∙ p₂ .update-routes .kept .1 .1 .1 .1 .1 .0 ∙ p₁ .update-tracks .kept .1 .1 .1 .1 .1 .0 ∙ s .values; times = p₃ .update-sends .kept .1 .1 .1 .1 .1 .1 .0 ∙ p₂ .update-routes .kept .1 .1 .1 .1 .1 .1 .0 ∙ p₁ .update-tracks .kept .1 .1 .1 .1 .1 .1 .0 ∙ s .times }, h .1 .1 .1)))
 
 same-length : tie.Need-same-length
 same-length c =
-    let a = c .before .before .before .before .before .before .before .before .before .before .before .before .before .before .before .before .before .before .before .before .before .before .before .before .before .before .before .before .before .before .before .before .before .before .before .before .before .before .before .before .before .before .before .before .before .before .before .before .before .before .before .before .before .before .before .before .before .before .before .before .before .before .before .before .before .before .before .before .before .before .before .before .before .before .before .before .before .before .args in
-    let n = numbers (a .kinds .now) (a .counts .now) (a .shorts .now) (a .values .now) (a .times .now) in
-    let t = c .before .before .before .before .before .before .before .before .before .before .before .before .before .before .before .before .before .before .before .before .before .before .before .before .before .before .before .before .before .before .before .before .before .before .before .before .before .before .before .before .before .before .before .before .before .before .before .before .before .before .before .before .before .before .before .before .before .before .before .before .before .before .before .before .before .before .before .before .before .before .before .before .before .before .before .before .before .before .pre in
-    let h = t .1 .1 .1 .1 .1 in
-    let a₀ = arrays (a .places .now) (a .levels .now) (a .amplitudes .now) n in
-    let sized = sizedBy (a .places .now) (a .levels .now) (a .amplitudes .now) n (h .0) (h .1 .0) (h .1 .1 .0) in
-    let e₁ = c .before .before .before .before .before .before .before .before .before .before .before .before .before .before .before .before .before .before .before .before .before .before .before .before .before .before .before .before .before .before .before .before .before .before .before .before .before .before .before .before .before .before .before .before .before .before .before .before .before .before .before .before .before .before .before .before .before .before .before .before .before .before .before .update-tracks .ensures (a .amplitudes .now) in
-    let k₁ = tracks-then (a .dt) (clocksFrom (a .clocks) (a .ticks .now) (a .positions .now)) a₀ sized (t .1 .0 .few) e₁ in
-    let x = c .before .before .before .before .before .before .before .before .before .before .before .before .before .before .before .before .before .before .before .before .before .before .before .before .before .before .before .before .before .before .before .before .before .before .before .before .before .before .before .before .before .before .before .before .before .before .before .before .before .before .before .before .before .before .before .before .before .before .before .before .before .before .before .update-tracks .last in
-    let a₁ = arrays (x .0) (x .1 .0) (a .amplitudes .now) (numbers (x .1 .1 .0) (x .1 .1 .1 .0) (x .1 .1 .1 .1 .0) (x .1 .1 .1 .1 .1 .0) (x .1 .1 .1 .1 .1 .1 .0)) in
-    let e₂ = c .before .before .before .before .before .before .before .before .before .before .before .before .before .before .before .before .before .before .before .before .before .before .before .before .before .before .before .before .before .before .before .before .before .before .before .before .before .before .before .before .before .before .before .before .before .update-routes .ensures (x .1 .0) in
-    let k₂ = routes-then (a .dt) (clocksFrom (a .clocks) (a .ticks .now) (a .positions .now)) a₁ (k₁ .sized .state) (tracks-routes k₁ (t .1 .1 .0) .few) e₂ in
-    let y = c .before .before .before .before .before .before .before .before .before .before .before .before .before .before .before .before .before .before .before .before .before .before .before .before .before .before .before .before .before .before .before .before .before .before .before .before .before .before .before .before .before .before .before .before .before .update-routes .last in
-    let n₂ = numbers (y .1 .1 .0) (y .1 .1 .1 .0) (y .1 .1 .1 .1 .0) (y .1 .1 .1 .1 .1 .0) (y .1 .1 .1 .1 .1 .1 .0) in
-    let a₂ = arrays (x .0) (x .1 .0) (y .1 .0) n₂ in
-    let e₃ = c .before .before .before .before .before .before .before .before .before .before .before .before .before .before .before .before .before .before .before .before .before .before .before .before .before .before .before .update-sends .ensures (y .1 .0) in
-    let k₃ = sends-then (a .dt) (clocksFrom (a .clocks) (a .ticks .now) (a .positions .now)) a₂ (sizedBy (x .0) (x .1 .0) (y .1 .0) n₂ (k₁ .sized .places) (k₁ .sized .levels) (k₂ .sized)) (tracks-sends k₁ (t .1 .1 .1 .0)) e₃ in
-    let z = c .before .before .before .before .before .before .before .before .before .before .before .before .before .before .before .before .before .before .before .before .before .before .before .before .before .before .before .update-sends .last in
-    let a₃ = arrays (x .0) (z .1 .0) (y .1 .0) (numbers (z .1 .1 .0) (z .1 .1 .1 .0) (z .1 .1 .1 .1 .0) (z .1 .1 .1 .1 .1 .0) (z .1 .1 .1 .1 .1 .1 .0)) in
-    let s₄ = main-then (a .dt) (clocksFrom (a .clocks) (a .ticks .now) (a .positions .now)) a₃ (k₃ .sized) (c .before .before .before .before .before .before .before .before .before .before .update-levelled .ensures (x .0) (y .1 .0)) in
-    s₄ .state .kinds ∙ sym (h .1 .1 .0 .kinds)
+    let p₄ = c .before .before .before .before .before .before .before .before .before .before in
+    let p₃ = p₄ .before .before .before .before .before .before .before .before .before .before .before .before .before .before .before .before .before in
+    let p₂ = p₃ .before .before .before .before .before .before .before .before .before .before .before .before .before .before .before .before .before .before in
+    let p₁ = p₂ .before .before .before .before .before .before .before .before .before .before .before .before .before .before .before .before .before .before in
+    p₄ .update-levelled .kept .1 .0 ∙ p₃ .update-sends .kept .1 .1 .0 ∙ p₂ .update-routes .kept .1 .1 .0 ∙ p₁ .update-tracks .kept .1 .1 .0
 
 same-length-2 : tie.Need-same-length-2
 same-length-2 c =
-    let a = c .before .before .before .before .before .before .before .before .before .before .before .before .before .before .before .before .before .before .before .before .before .before .before .before .before .before .before .before .before .before .before .before .before .before .before .before .before .before .before .before .before .before .before .before .before .before .before .before .before .before .before .before .before .before .before .before .before .before .before .before .before .before .before .before .before .before .before .before .before .before .before .before .before .before .before .before .before .before .args in
-    let n = numbers (a .kinds .now) (a .counts .now) (a .shorts .now) (a .values .now) (a .times .now) in
-    let t = c .before .before .before .before .before .before .before .before .before .before .before .before .before .before .before .before .before .before .before .before .before .before .before .before .before .before .before .before .before .before .before .before .before .before .before .before .before .before .before .before .before .before .before .before .before .before .before .before .before .before .before .before .before .before .before .before .before .before .before .before .before .before .before .before .before .before .before .before .before .before .before .before .before .before .before .before .before .before .pre in
-    let h = t .1 .1 .1 .1 .1 in
-    let a₀ = arrays (a .places .now) (a .levels .now) (a .amplitudes .now) n in
-    let sized = sizedBy (a .places .now) (a .levels .now) (a .amplitudes .now) n (h .0) (h .1 .0) (h .1 .1 .0) in
-    let e₁ = c .before .before .before .before .before .before .before .before .before .before .before .before .before .before .before .before .before .before .before .before .before .before .before .before .before .before .before .before .before .before .before .before .before .before .before .before .before .before .before .before .before .before .before .before .before .before .before .before .before .before .before .before .before .before .before .before .before .before .before .before .before .before .before .update-tracks .ensures (a .amplitudes .now) in
-    let k₁ = tracks-then (a .dt) (clocksFrom (a .clocks) (a .ticks .now) (a .positions .now)) a₀ sized (t .1 .0 .few) e₁ in
-    let x = c .before .before .before .before .before .before .before .before .before .before .before .before .before .before .before .before .before .before .before .before .before .before .before .before .before .before .before .before .before .before .before .before .before .before .before .before .before .before .before .before .before .before .before .before .before .before .before .before .before .before .before .before .before .before .before .before .before .before .before .before .before .before .before .update-tracks .last in
-    let a₁ = arrays (x .0) (x .1 .0) (a .amplitudes .now) (numbers (x .1 .1 .0) (x .1 .1 .1 .0) (x .1 .1 .1 .1 .0) (x .1 .1 .1 .1 .1 .0) (x .1 .1 .1 .1 .1 .1 .0)) in
-    let e₂ = c .before .before .before .before .before .before .before .before .before .before .before .before .before .before .before .before .before .before .before .before .before .before .before .before .before .before .before .before .before .before .before .before .before .before .before .before .before .before .before .before .before .before .before .before .before .update-routes .ensures (x .1 .0) in
-    let k₂ = routes-then (a .dt) (clocksFrom (a .clocks) (a .ticks .now) (a .positions .now)) a₁ (k₁ .sized .state) (tracks-routes k₁ (t .1 .1 .0) .few) e₂ in
-    let y = c .before .before .before .before .before .before .before .before .before .before .before .before .before .before .before .before .before .before .before .before .before .before .before .before .before .before .before .before .before .before .before .before .before .before .before .before .before .before .before .before .before .before .before .before .before .update-routes .last in
-    let n₂ = numbers (y .1 .1 .0) (y .1 .1 .1 .0) (y .1 .1 .1 .1 .0) (y .1 .1 .1 .1 .1 .0) (y .1 .1 .1 .1 .1 .1 .0) in
-    let a₂ = arrays (x .0) (x .1 .0) (y .1 .0) n₂ in
-    let e₃ = c .before .before .before .before .before .before .before .before .before .before .before .before .before .before .before .before .before .before .before .before .before .before .before .before .before .before .before .update-sends .ensures (y .1 .0) in
-    let k₃ = sends-then (a .dt) (clocksFrom (a .clocks) (a .ticks .now) (a .positions .now)) a₂ (sizedBy (x .0) (x .1 .0) (y .1 .0) n₂ (k₁ .sized .places) (k₁ .sized .levels) (k₂ .sized)) (tracks-sends k₁ (t .1 .1 .1 .0)) e₃ in
-    let z = c .before .before .before .before .before .before .before .before .before .before .before .before .before .before .before .before .before .before .before .before .before .before .before .before .before .before .before .update-sends .last in
-    let a₃ = arrays (x .0) (z .1 .0) (y .1 .0) (numbers (z .1 .1 .0) (z .1 .1 .1 .0) (z .1 .1 .1 .1 .0) (z .1 .1 .1 .1 .1 .0) (z .1 .1 .1 .1 .1 .1 .0)) in
-    let s₄ = main-then (a .dt) (clocksFrom (a .clocks) (a .ticks .now) (a .positions .now)) a₃ (k₃ .sized) (c .before .before .before .before .before .before .before .before .before .before .update-levelled .ensures (x .0) (y .1 .0)) in
-    s₄ .state .counts ∙ sym (h .1 .1 .0 .counts)
+    let p₄ = c .before .before .before .before .before .before .before .before .before .before in
+    let p₃ = p₄ .before .before .before .before .before .before .before .before .before .before .before .before .before .before .before .before .before in
+    let p₂ = p₃ .before .before .before .before .before .before .before .before .before .before .before .before .before .before .before .before .before .before in
+    let p₁ = p₂ .before .before .before .before .before .before .before .before .before .before .before .before .before .before .before .before .before .before in
+    p₄ .update-levelled .kept .1 .1 .0 ∙ p₃ .update-sends .kept .1 .1 .1 .0 ∙ p₂ .update-routes .kept .1 .1 .1 .0 ∙ p₁ .update-tracks .kept .1 .1 .1 .0
 
 same-length-3 : tie.Need-same-length-3
 same-length-3 c =
-    let a = c .before .before .before .before .before .before .before .before .before .before .before .before .before .before .before .before .before .before .before .before .before .before .before .before .before .before .before .before .before .before .before .before .before .before .before .before .before .before .before .before .before .before .before .before .before .before .before .before .before .before .before .before .before .before .before .before .before .before .before .before .before .before .before .before .before .before .before .before .before .before .before .before .before .before .before .before .before .before .args in
-    let n = numbers (a .kinds .now) (a .counts .now) (a .shorts .now) (a .values .now) (a .times .now) in
-    let t = c .before .before .before .before .before .before .before .before .before .before .before .before .before .before .before .before .before .before .before .before .before .before .before .before .before .before .before .before .before .before .before .before .before .before .before .before .before .before .before .before .before .before .before .before .before .before .before .before .before .before .before .before .before .before .before .before .before .before .before .before .before .before .before .before .before .before .before .before .before .before .before .before .before .before .before .before .before .before .pre in
-    let h = t .1 .1 .1 .1 .1 in
-    let a₀ = arrays (a .places .now) (a .levels .now) (a .amplitudes .now) n in
-    let sized = sizedBy (a .places .now) (a .levels .now) (a .amplitudes .now) n (h .0) (h .1 .0) (h .1 .1 .0) in
-    let e₁ = c .before .before .before .before .before .before .before .before .before .before .before .before .before .before .before .before .before .before .before .before .before .before .before .before .before .before .before .before .before .before .before .before .before .before .before .before .before .before .before .before .before .before .before .before .before .before .before .before .before .before .before .before .before .before .before .before .before .before .before .before .before .before .before .update-tracks .ensures (a .amplitudes .now) in
-    let k₁ = tracks-then (a .dt) (clocksFrom (a .clocks) (a .ticks .now) (a .positions .now)) a₀ sized (t .1 .0 .few) e₁ in
-    let x = c .before .before .before .before .before .before .before .before .before .before .before .before .before .before .before .before .before .before .before .before .before .before .before .before .before .before .before .before .before .before .before .before .before .before .before .before .before .before .before .before .before .before .before .before .before .before .before .before .before .before .before .before .before .before .before .before .before .before .before .before .before .before .before .update-tracks .last in
-    let a₁ = arrays (x .0) (x .1 .0) (a .amplitudes .now) (numbers (x .1 .1 .0) (x .1 .1 .1 .0) (x .1 .1 .1 .1 .0) (x .1 .1 .1 .1 .1 .0) (x .1 .1 .1 .1 .1 .1 .0)) in
-    let e₂ = c .before .before .before .before .before .before .before .before .before .before .before .before .before .before .before .before .before .before .before .before .before .before .before .before .before .before .before .before .before .before .before .before .before .before .before .before .before .before .before .before .before .before .before .before .before .update-routes .ensures (x .1 .0) in
-    let k₂ = routes-then (a .dt) (clocksFrom (a .clocks) (a .ticks .now) (a .positions .now)) a₁ (k₁ .sized .state) (tracks-routes k₁ (t .1 .1 .0) .few) e₂ in
-    let y = c .before .before .before .before .before .before .before .before .before .before .before .before .before .before .before .before .before .before .before .before .before .before .before .before .before .before .before .before .before .before .before .before .before .before .before .before .before .before .before .before .before .before .before .before .before .update-routes .last in
-    let n₂ = numbers (y .1 .1 .0) (y .1 .1 .1 .0) (y .1 .1 .1 .1 .0) (y .1 .1 .1 .1 .1 .0) (y .1 .1 .1 .1 .1 .1 .0) in
-    let a₂ = arrays (x .0) (x .1 .0) (y .1 .0) n₂ in
-    let e₃ = c .before .before .before .before .before .before .before .before .before .before .before .before .before .before .before .before .before .before .before .before .before .before .before .before .before .before .before .update-sends .ensures (y .1 .0) in
-    let k₃ = sends-then (a .dt) (clocksFrom (a .clocks) (a .ticks .now) (a .positions .now)) a₂ (sizedBy (x .0) (x .1 .0) (y .1 .0) n₂ (k₁ .sized .places) (k₁ .sized .levels) (k₂ .sized)) (tracks-sends k₁ (t .1 .1 .1 .0)) e₃ in
-    let z = c .before .before .before .before .before .before .before .before .before .before .before .before .before .before .before .before .before .before .before .before .before .before .before .before .before .before .before .update-sends .last in
-    let a₃ = arrays (x .0) (z .1 .0) (y .1 .0) (numbers (z .1 .1 .0) (z .1 .1 .1 .0) (z .1 .1 .1 .1 .0) (z .1 .1 .1 .1 .1 .0) (z .1 .1 .1 .1 .1 .1 .0)) in
-    let s₄ = main-then (a .dt) (clocksFrom (a .clocks) (a .ticks .now) (a .positions .now)) a₃ (k₃ .sized) (c .before .before .before .before .before .before .before .before .before .before .update-levelled .ensures (x .0) (y .1 .0)) in
-    s₄ .state .shorts ∙ sym (h .1 .1 .0 .shorts)
+    let p₄ = c .before .before .before .before .before .before .before .before .before .before in
+    let p₃ = p₄ .before .before .before .before .before .before .before .before .before .before .before .before .before .before .before .before .before in
+    let p₂ = p₃ .before .before .before .before .before .before .before .before .before .before .before .before .before .before .before .before .before .before in
+    let p₁ = p₂ .before .before .before .before .before .before .before .before .before .before .before .before .before .before .before .before .before .before in
+    p₄ .update-levelled .kept .1 .1 .1 .0 ∙ p₃ .update-sends .kept .1 .1 .1 .1 .0 ∙ p₂ .update-routes .kept .1 .1 .1 .1 .0 ∙ p₁ .update-tracks .kept .1 .1 .1 .1 .0
 
 same-length-4 : tie.Need-same-length-4
 same-length-4 c =
-    let a = c .before .before .before .before .before .before .before .before .before .before .before .before .before .before .before .before .before .before .before .before .before .before .before .before .before .before .before .before .before .before .before .before .before .before .before .before .before .before .before .before .before .before .before .before .before .before .before .before .before .before .before .before .before .before .before .before .before .before .before .before .before .before .before .before .before .before .before .before .before .before .before .before .before .before .before .before .before .before .args in
-    let n = numbers (a .kinds .now) (a .counts .now) (a .shorts .now) (a .values .now) (a .times .now) in
-    let t = c .before .before .before .before .before .before .before .before .before .before .before .before .before .before .before .before .before .before .before .before .before .before .before .before .before .before .before .before .before .before .before .before .before .before .before .before .before .before .before .before .before .before .before .before .before .before .before .before .before .before .before .before .before .before .before .before .before .before .before .before .before .before .before .before .before .before .before .before .before .before .before .before .before .before .before .before .before .before .pre in
-    let h = t .1 .1 .1 .1 .1 in
-    let a₀ = arrays (a .places .now) (a .levels .now) (a .amplitudes .now) n in
-    let sized = sizedBy (a .places .now) (a .levels .now) (a .amplitudes .now) n (h .0) (h .1 .0) (h .1 .1 .0) in
-    let e₁ = c .before .before .before .before .before .before .before .before .before .before .before .before .before .before .before .before .before .before .before .before .before .before .before .before .before .before .before .before .before .before .before .before .before .before .before .before .before .before .before .before .before .before .before .before .before .before .before .before .before .before .before .before .before .before .before .before .before .before .before .before .before .before .before .update-tracks .ensures (a .amplitudes .now) in
-    let k₁ = tracks-then (a .dt) (clocksFrom (a .clocks) (a .ticks .now) (a .positions .now)) a₀ sized (t .1 .0 .few) e₁ in
-    let x = c .before .before .before .before .before .before .before .before .before .before .before .before .before .before .before .before .before .before .before .before .before .before .before .before .before .before .before .before .before .before .before .before .before .before .before .before .before .before .before .before .before .before .before .before .before .before .before .before .before .before .before .before .before .before .before .before .before .before .before .before .before .before .before .update-tracks .last in
-    let a₁ = arrays (x .0) (x .1 .0) (a .amplitudes .now) (numbers (x .1 .1 .0) (x .1 .1 .1 .0) (x .1 .1 .1 .1 .0) (x .1 .1 .1 .1 .1 .0) (x .1 .1 .1 .1 .1 .1 .0)) in
-    let e₂ = c .before .before .before .before .before .before .before .before .before .before .before .before .before .before .before .before .before .before .before .before .before .before .before .before .before .before .before .before .before .before .before .before .before .before .before .before .before .before .before .before .before .before .before .before .before .update-routes .ensures (x .1 .0) in
-    let k₂ = routes-then (a .dt) (clocksFrom (a .clocks) (a .ticks .now) (a .positions .now)) a₁ (k₁ .sized .state) (tracks-routes k₁ (t .1 .1 .0) .few) e₂ in
-    let y = c .before .before .before .before .before .before .before .before .before .before .before .before .before .before .before .before .before .before .before .before .before .before .before .before .before .before .before .before .before .before .before .before .before .before .before .before .before .before .before .before .before .before .before .before .before .update-routes .last in
-    let n₂ = numbers (y .1 .1 .0) (y .1 .1 .1 .0) (y .1 .1 .1 .1 .0) (y .1 .1 .1 .1 .1 .0) (y .1 .1 .1 .1 .1 .1 .0) in
-    let a₂ = arrays (x .0) (x .1 .0) (y .1 .0) n₂ in
-    let e₃ = c .before .before .before .before .before .before .before .before .before .before .before .before .before .before .before .before .before .before .before .before .before .before .before .before .before .before .before .update-sends .ensures (y .1 .0) in
-    let k₃ = sends-then (a .dt) (clocksFrom (a .clocks) (a .ticks .now) (a .positions .now)) a₂ (sizedBy (x .0) (x .1 .0) (y .1 .0) n₂ (k₁ .sized .places) (k₁ .sized .levels) (k₂ .sized)) (tracks-sends k₁ (t .1 .1 .1 .0)) e₃ in
-    let z = c .before .before .before .before .before .before .before .before .before .before .before .before .before .before .before .before .before .before .before .before .before .before .before .before .before .before .before .update-sends .last in
-    let a₃ = arrays (x .0) (z .1 .0) (y .1 .0) (numbers (z .1 .1 .0) (z .1 .1 .1 .0) (z .1 .1 .1 .1 .0) (z .1 .1 .1 .1 .1 .0) (z .1 .1 .1 .1 .1 .1 .0)) in
-    let s₄ = main-then (a .dt) (clocksFrom (a .clocks) (a .ticks .now) (a .positions .now)) a₃ (k₃ .sized) (c .before .before .before .before .before .before .before .before .before .before .update-levelled .ensures (x .0) (y .1 .0)) in
-    s₄ .state .values ∙ sym (h .1 .1 .0 .values)
+    let p₄ = c .before .before .before .before .before .before .before .before .before .before in
+    let p₃ = p₄ .before .before .before .before .before .before .before .before .before .before .before .before .before .before .before .before .before in
+    let p₂ = p₃ .before .before .before .before .before .before .before .before .before .before .before .before .before .before .before .before .before .before in
+    let p₁ = p₂ .before .before .before .before .before .before .before .before .before .before .before .before .before .before .before .before .before .before in
+    p₄ .update-levelled .kept .1 .1 .1 .1 .0 ∙ p₃ .update-sends .kept .1 .1 .1 .1 .1 .0 ∙ p₂ .update-routes .kept .1 .1 .1 .1 .1 .0 ∙ p₁ .update-tracks .kept .1 .1 .1 .1 .1 .0
 
 same-length-5 : tie.Need-same-length-5
 same-length-5 c =
-    let a = c .before .before .before .before .before .before .before .before .before .before .before .before .before .before .before .before .before .before .before .before .before .before .before .before .before .before .before .before .before .before .before .before .before .before .before .before .before .before .before .before .before .before .before .before .before .before .before .before .before .before .before .before .before .before .before .before .before .before .before .before .before .before .before .before .before .before .before .before .before .before .before .before .before .before .before .before .before .before .args in
-    let n = numbers (a .kinds .now) (a .counts .now) (a .shorts .now) (a .values .now) (a .times .now) in
-    let t = c .before .before .before .before .before .before .before .before .before .before .before .before .before .before .before .before .before .before .before .before .before .before .before .before .before .before .before .before .before .before .before .before .before .before .before .before .before .before .before .before .before .before .before .before .before .before .before .before .before .before .before .before .before .before .before .before .before .before .before .before .before .before .before .before .before .before .before .before .before .before .before .before .before .before .before .before .before .before .pre in
-    let h = t .1 .1 .1 .1 .1 in
-    let a₀ = arrays (a .places .now) (a .levels .now) (a .amplitudes .now) n in
-    let sized = sizedBy (a .places .now) (a .levels .now) (a .amplitudes .now) n (h .0) (h .1 .0) (h .1 .1 .0) in
-    let e₁ = c .before .before .before .before .before .before .before .before .before .before .before .before .before .before .before .before .before .before .before .before .before .before .before .before .before .before .before .before .before .before .before .before .before .before .before .before .before .before .before .before .before .before .before .before .before .before .before .before .before .before .before .before .before .before .before .before .before .before .before .before .before .before .before .update-tracks .ensures (a .amplitudes .now) in
-    let k₁ = tracks-then (a .dt) (clocksFrom (a .clocks) (a .ticks .now) (a .positions .now)) a₀ sized (t .1 .0 .few) e₁ in
-    let x = c .before .before .before .before .before .before .before .before .before .before .before .before .before .before .before .before .before .before .before .before .before .before .before .before .before .before .before .before .before .before .before .before .before .before .before .before .before .before .before .before .before .before .before .before .before .before .before .before .before .before .before .before .before .before .before .before .before .before .before .before .before .before .before .update-tracks .last in
-    let a₁ = arrays (x .0) (x .1 .0) (a .amplitudes .now) (numbers (x .1 .1 .0) (x .1 .1 .1 .0) (x .1 .1 .1 .1 .0) (x .1 .1 .1 .1 .1 .0) (x .1 .1 .1 .1 .1 .1 .0)) in
-    let e₂ = c .before .before .before .before .before .before .before .before .before .before .before .before .before .before .before .before .before .before .before .before .before .before .before .before .before .before .before .before .before .before .before .before .before .before .before .before .before .before .before .before .before .before .before .before .before .update-routes .ensures (x .1 .0) in
-    let k₂ = routes-then (a .dt) (clocksFrom (a .clocks) (a .ticks .now) (a .positions .now)) a₁ (k₁ .sized .state) (tracks-routes k₁ (t .1 .1 .0) .few) e₂ in
-    let y = c .before .before .before .before .before .before .before .before .before .before .before .before .before .before .before .before .before .before .before .before .before .before .before .before .before .before .before .before .before .before .before .before .before .before .before .before .before .before .before .before .before .before .before .before .before .update-routes .last in
-    let n₂ = numbers (y .1 .1 .0) (y .1 .1 .1 .0) (y .1 .1 .1 .1 .0) (y .1 .1 .1 .1 .1 .0) (y .1 .1 .1 .1 .1 .1 .0) in
-    let a₂ = arrays (x .0) (x .1 .0) (y .1 .0) n₂ in
-    let e₃ = c .before .before .before .before .before .before .before .before .before .before .before .before .before .before .before .before .before .before .before .before .before .before .before .before .before .before .before .update-sends .ensures (y .1 .0) in
-    let k₃ = sends-then (a .dt) (clocksFrom (a .clocks) (a .ticks .now) (a .positions .now)) a₂ (sizedBy (x .0) (x .1 .0) (y .1 .0) n₂ (k₁ .sized .places) (k₁ .sized .levels) (k₂ .sized)) (tracks-sends k₁ (t .1 .1 .1 .0)) e₃ in
-    let z = c .before .before .before .before .before .before .before .before .before .before .before .before .before .before .before .before .before .before .before .before .before .before .before .before .before .before .before .update-sends .last in
-    let a₃ = arrays (x .0) (z .1 .0) (y .1 .0) (numbers (z .1 .1 .0) (z .1 .1 .1 .0) (z .1 .1 .1 .1 .0) (z .1 .1 .1 .1 .1 .0) (z .1 .1 .1 .1 .1 .1 .0)) in
-    let s₄ = main-then (a .dt) (clocksFrom (a .clocks) (a .ticks .now) (a .positions .now)) a₃ (k₃ .sized) (c .before .before .before .before .before .before .before .before .before .before .update-levelled .ensures (x .0) (y .1 .0)) in
-    s₄ .state .times ∙ sym (h .1 .1 .0 .times)
+    let p₄ = c .before .before .before .before .before .before .before .before .before .before in
+    let p₃ = p₄ .before .before .before .before .before .before .before .before .before .before .before .before .before .before .before .before .before in
+    let p₂ = p₃ .before .before .before .before .before .before .before .before .before .before .before .before .before .before .before .before .before .before in
+    let p₁ = p₂ .before .before .before .before .before .before .before .before .before .before .before .before .before .before .before .before .before .before in
+    p₄ .update-levelled .kept .1 .1 .1 .1 .1 .0 ∙ p₃ .update-sends .kept .1 .1 .1 .1 .1 .1 .0 ∙ p₂ .update-routes .kept .1 .1 .1 .1 .1 .1 .0 ∙ p₁ .update-tracks .kept .1 .1 .1 .1 .1 .1 .0
 
 returns : tie.Need-returns
 returns c =
-    let a = c .before .before .before .before .before .before .before .before .before .before .before .before .before .before .before .before .before .before .before .before .before .before .before .before .before .before .before .before .before .before .before .before .before .before .before .before .before .before .before .before .before .before .before .before .before .before .before .before .before .before .before .before .before .before .before .before .before .before .before .before .before .before .before .before .before .before .before .before .before .before .before .before .before .before .before .before .before .before .args in
-    let n = numbers (a .kinds .now) (a .counts .now) (a .shorts .now) (a .values .now) (a .times .now) in
-    let x = c .before .before .before .before .before .before .before .before .before .before .before .before .before .before .before .before .before .before .before .before .before .before .before .before .before .before .before .before .before .before .before .before .before .before .before .before .before .before .before .before .before .before .before .before .before .before .before .before .before .before .before .before .before .before .before .before .before .before .before .before .before .before .before .update-tracks .last in
-    let y = c .before .before .before .before .before .before .before .before .before .before .before .before .before .before .before .before .before .before .before .before .before .before .before .before .before .before .before .before .before .before .before .before .before .before .before .before .before .before .before .before .before .before .before .before .before .update-routes .last in
-    mixer-steps (a .dt) (clocksFrom (a .clocks) (a .ticks .now) (a .positions .now)) (arrays (a .places .now) (a .levels .now) (a .amplitudes .now) n) (c .before .before .before .before .before .before .before .before .before .before .before .before .before .before .before .before .before .before .before .before .before .before .before .before .before .before .before .before .before .before .before .before .before .before .before .before .before .before .before .before .before .before .before .before .before .before .before .before .before .before .before .before .before .before .before .before .before .before .before .before .before .before .before .update-tracks .ensures (a .amplitudes .now)) (c .before .before .before .before .before .before .before .before .before .before .before .before .before .before .before .before .before .before .before .before .before .before .before .before .before .before .before .before .before .before .before .before .before .before .before .before .before .before .before .before .before .before .before .before .before .update-routes .ensures (x .1 .0)) (c .before .before .before .before .before .before .before .before .before .before .before .before .before .before .before .before .before .before .before .before .before .before .before .before .before .before .before .update-sends .ensures (y .1 .0)) (c .before .before .before .before .before .before .before .before .before .before .update-levelled .ensures (x .0) (y .1 .0))
+    let p₄ = c .before .before .before .before .before .before .before .before .before .before in
+    let p₃ = p₄ .before .before .before .before .before .before .before .before .before .before .before .before .before .before .before .before .before in
+    let p₂ = p₃ .before .before .before .before .before .before .before .before .before .before .before .before .before .before .before .before .before .before in
+    let p₁ = p₂ .before .before .before .before .before .before .before .before .before .before .before .before .before .before .before .before .before .before in
+    let start = p₁ .before .before .before .before .before .before .before .before .before .before .before .before .before .before .before in
+    let a = start .args in
+    let x = p₁ .update-tracks .last in
+    let y = p₂ .update-routes .last in
+    let z = p₃ .update-sends .last in
+    let w = p₄ .update-levelled .last in
+    mixer-steps (a .dt) (clocksFrom (a .clocks) (a .ticks .now) (a .positions .now)) (arrays (a .places .now) (a .levels .now) (a .amplitudes .now) (numbers (a .kinds .now) (a .counts .now) (a .shorts .now) (a .values .now) (a .times .now)))
+    {a₁ = arrays (x .0) (x .1 .0) (a .amplitudes .now) (numbers (x .1 .1 .0) (x .1 .1 .1 .0) (x .1 .1 .1 .1 .0) (x .1 .1 .1 .1 .1 .0) (x .1 .1 .1 .1 .1 .1 .0))}
+    {a₂ = arrays (x .0) (x .1 .0) (y .1 .0) (numbers (y .1 .1 .0) (y .1 .1 .1 .0) (y .1 .1 .1 .1 .0) (y .1 .1 .1 .1 .1 .0) (y .1 .1 .1 .1 .1 .1 .0))}
+    {a₃ = arrays (x .0) (z .1 .0) (y .1 .0) (numbers (z .1 .1 .0) (z .1 .1 .1 .0) (z .1 .1 .1 .1 .0) (z .1 .1 .1 .1 .1 .0) (z .1 .1 .1 .1 .1 .1 .0))}
+    {a₄ = arrays (x .0) (w .0) (y .1 .0) (numbers (w .1 .0) (w .1 .1 .0) (w .1 .1 .1 .0) (w .1 .1 .1 .1 .0) (w .1 .1 .1 .1 .1 .0))}
+    (p₁ .update-tracks .ensures (a .amplitudes .now)) (p₂ .update-routes .ensures (x .1 .0)) (p₃ .update-sends .ensures (y .1 .0)) (p₄ .update-levelled .ensures (x .0) (y .1 .0))
 
 pub update-spec : {M : Type 1} → statement M
 update-spec =
