@@ -2,7 +2,7 @@
 use mathlib.Core.Path.{_≡_, refl, ap}
 use mathlib.Core.List.{List}
 use Prim.Native.Nat.{ℕ}
-use lib.Ieee.{binary32, ofBits}
+use lib.Ieee.{Float, binary32, ofBits}
 use Rattle.byte_order.specs.declared.bytes.ByteOrder.{ByteOrder}
 use Rattle.pcm.specs.declared.sample.Encoding.{Encoding}
 use Rattle.pcm.specs.declared.sample.Encoding.the-variants.{Pcm16, Float32}
@@ -24,3 +24,11 @@ pcm-at order bytes at = refl
 pub float-at : (order : ByteOrder) (bytes : List ℕ) (at : ℕ) → sampleAt Float32 order bytes at ≡ ofBits binary32 (numberAt order bytes at 4)
 unfolding sampleAt width sampleOf
 float-at order bytes at = refl
+
+-- the same of a number that was read
+module _ (order : ByteOrder) (bytes : List ℕ) (at : ℕ) {encoding : Encoding} {n : ℕ} {x : Float} where
+  pub pcm-read : encoding ≡ Pcm16 → n ≡ numberAt order bytes at 2 → x ≡ sampleOf Pcm16 n → x ≡ sampleAt encoding order bytes at
+  pcm-read e p q = cc (pcm-at order bytes at)
+
+  pub float-read : encoding ≡ Float32 → n ≡ numberAt order bytes at 4 → x ≡ ofBits binary32 n → x ≡ sampleAt encoding order bytes at
+  float-read e p q = cc (float-at order bytes at)

@@ -41,6 +41,14 @@ module _ (file : List ℕ) where
   unfolding infoOf infoFrom
   info-refused n rate channels bits frames e = ap (λ (f : Found). infoFrom f rate channels bits frames) e
 
+  -- the same of what was found
+  pub holds-told : {f : Found} {s : Sound} {b : ℕ} (rate channels bits frames : ℕ) → f ≡ soundIn file → f ≡ Holds s → b ≡ bitsOf (s .encoding)
+      → held 0 (s .rate) (s .channels) b (s .frames) ≡ infoOf file rate channels bits frames
+  holds-told {s = s} rate channels bits frames p q e = ap (λ (x : ℕ). held 0 (s .rate) (s .channels) x (s .frames)) e ∙ sym (info-holds s rate channels bits frames (sym p ∙ q))
+
+  pub refused-told : {f : Found} {n : ℕ} (rate channels bits frames : ℕ) → f ≡ soundIn file → f ≡ Refused n → held n rate channels bits frames ≡ infoOf file rate channels bits frames
+  refused-told {n = n} rate channels bits frames p q = sym (info-refused n rate channels bits frames (sym p ∙ q))
+
 module _ (order : ByteOrder) (found : Found) (file : List ℕ) where
   pub read-refused : (n : ℕ) (samples : List Float) (rate : ℕ) → found ≡ Refused n → readFrom order found file samples rate ≡ reading n samples rate
   unfolding readFrom

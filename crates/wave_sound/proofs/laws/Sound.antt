@@ -18,6 +18,7 @@ use Rattle.iff_chunks.proofs.laws.Inside.{first-header, first-body, second-body
 use Rattle.pcm.specs.declared.sample.Encoding.{Encoding}
 use Rattle.pcm.specs.declared.sample.Encoding.the-variants.{Pcm16, Float32}
 use Rattle.pcm.specs.Sample.{width}
+use Rattle.wave_sound.specs.declared.sound.Found.{Found}
 use Rattle.wave_sound.specs.declared.sound.Found.the-variants.{Holds, Refused}
 use Rattle.wave_sound.specs.declared.sound.Kind.{Kind}
 use Rattle.wave_sound.specs.declared.sound.Kind.the-variants.{Known, Other}
@@ -171,6 +172,15 @@ module _ (file : List ℕ) (format body : ℕ) where
   unfolding soundAt soundKind sizeAt
   at-other e =
       ap (λ (k : Kind). soundKind k (numberAt Little file (format + 10) 2) (numberAt Little file (format + 12) 4) (body + 8) (numberAt Little file (body + 4) 4)) e
+
+  -- the same of numbers that were read
+  pub known-read : {tag channels rate bits size : ℕ} {kind : Kind} {encoding : Encoding} {found : Found} → tag ≡ numberAt Little file (format + 8) 2 → channels ≡ numberAt Little file (format + 10) 2
+      → rate ≡ numberAt Little file (format + 12) 4 → bits ≡ numberAt Little file (format + 22) 2 → size ≡ numberAt Little file (body + 4) 4 → kind ≡ kindOf tag bits → kind ≡ Known encoding
+      → found ≡ soundOf encoding channels rate (body + 8) size → found ≡ soundAt file format body
+  known-read {encoding = encoding} t c r b s k e h = cc (at-known encoding (cc))
+
+  pub other-read : {tag bits : ℕ} {kind : Kind} → tag ≡ numberAt Little file (format + 8) 2 → bits ≡ numberAt Little file (format + 22) 2 → kind ≡ kindOf tag bits → kind ≡ Other → Refused 15 ≡ soundAt file format body
+  other-read t b k e = cc (at-other (cc))
 
 -- ---- the whole file, by what the walk found
 

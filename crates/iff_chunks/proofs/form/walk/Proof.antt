@@ -1,9 +1,10 @@
 -- `walk` meets its contract: at each turn what is left of the walk comes to what the whole walk does. Assumes nothing.
-use Prim.Native.Nat.{_≤_, _-_}
+use mathlib.Core.Path.{ap, _∙_}
+use Prim.Native.Nat.{ℕ, _≤_, _-_}
 use native.Mathlib.Omega.{arith}
 use borrow.Author.Needs.{needs}
 use lib.ListN.{length}
-use Rattle.iff_chunks.specs.Chunks.{walkOf, identifierAt, sizeAt}
+use Rattle.iff_chunks.specs.Chunks.{walkOf, identifierAt, sizeAt, noted}
 use Rattle.iff_chunks.proofs.laws.Walk.{Walks, walks-start, walks-rest, walks-past, walks-on, walks-end}
 use Rattle.iff_chunks.proofs.form.walk.Statement.{statement}
 use Rattle.iff_chunks.proofs.form.walk.Tie as tie
@@ -55,7 +56,7 @@ unfolding identifierAt sizeAt
 returns-2 c =
     let start = c .before .before .before .before .before .before .before .before .before in
     let at = c .before .before .before .before .before .before .before .loop in
-    walks-past (start .args .order) (start .args .a) (start .args .b) (start .args .file .now) (at .at) (at .first) (at .second) _ (at .inv .1) (c .before .before .before .number4-at2 .ensures) (cc) (cc) (search needs) (search needs)
+    walks-past (start .args .order) (start .args .a) (start .args .b) (start .args .file .now) (at .at) (at .first) (at .second) _ (at .inv .1) (c .before .before .before .number4-at2 .ensures) (c .before .before .noted .ensures ∙ ap (λ (i : ℕ). noted (at .first) i (start .args .a) (at .at)) (c .before .before .before .before .number4-at .ensures)) (c .before .noted2 .ensures ∙ ap (λ (i : ℕ). noted (at .second) i (start .args .b) (at .at)) (c .before .before .before .before .number4-at .ensures)) (search needs) (search needs)
 
 add-at : tie.Need-add-at Inv-loop μ-loop
 add-at c = search needs
@@ -74,7 +75,7 @@ unfolding identifierAt sizeAt
 loop-again c =
     let start = c .before .before .before .before .before .before .before .before .before in
     let at = c .before .before .before .before .before .before .before .loop in
-    (search needs, walks-on (start .args .order) (start .args .a) (start .args .b) (start .args .file .now) (at .at) (at .first) (at .second) _ (at .inv .1) (c .before .before .before .number4-at2 .ensures) (cc) (cc) (search needs) (omega arith))
+    (search needs, walks-on (start .args .order) (start .args .a) (start .args .b) (start .args .file .now) (at .at) (at .first) (at .second) _ (at .inv .1) (c .before .before .before .number4-at2 .ensures) (c .before .before .noted .ensures ∙ ap (λ (i : ℕ). noted (at .first) i (start .args .a) (at .at)) (c .before .before .before .before .number4-at .ensures)) (c .before .noted2 .ensures ∙ ap (λ (i : ℕ). noted (at .second) i (start .args .b) (at .at)) (c .before .before .before .before .number4-at .ensures)) (search needs) (omega arith))
 
 returns-3 : tie.Need-returns-3 Inv-loop μ-loop
 returns-3 c =

@@ -1,6 +1,6 @@
 -- `sample_at` meets its contract. Assumes nothing.
 use native.Mathlib.Omega.{arith}
-use Rattle.pcm.proofs.laws.Encodings.{pcm-width, float-width, pcm-at, float-at}
+use Rattle.pcm.proofs.laws.Encodings.{pcm-width, float-width, pcm-read, float-read}
 use borrow.Author.Needs.{needs}
 use Rattle.pcm.proofs.sample.sample_at.Statement.{statement}
 use Rattle.pcm.proofs.sample.sample_at.Tie as tie
@@ -25,13 +25,13 @@ f32-from-bits-requires c κs = search needs
 
 returns : tie.Need-returns
 returns c =
-    let start = c .before .before .before .before .before in
-    cc (pcm-at (start .args .order) (start .args .bytes .now) (start .args .at))
+    let a = c .before .before .before .before .before .args in
+    pcm-read (a .order) (a .bytes .now) (a .at) (c .before .before .enum-told .given .1) (c .before .number2-at .ensures .1) (c .sample-16 .ensures)
 
 returns-2 : tie.Need-returns-2
 returns-2 c =
-    let start = c .before .before .before .before .before in
-    cc (float-at (start .args .order) (start .args .bytes .now) (start .args .at))
+    let a = c .before .before .before .before .before .args in
+    float-read (a .order) (a .bytes .now) (a .at) (c .before .before .enum-told2 .given .1) (c .before .number4-at .ensures) (c .f32-from-bits .ensures)
 
 pub sample-at-spec : {M : Type 1} → statement M
 sample-at-spec =

@@ -1,5 +1,5 @@
 -- `info` meets its contract. Assumes nothing.
-use Rattle.wave_reader.proofs.laws.Read.{info-holds, info-refused}
+use Rattle.wave_reader.proofs.laws.Read.{holds-told, refused-told}
 use borrow.Author.Needs.{needs}
 use Rattle.wave_reader.proofs.file.info.Statement.{statement}
 use Rattle.wave_reader.proofs.file.info.Tie as tie
@@ -17,10 +17,14 @@ enum-known-number : tie.Need-enum-known-number
 enum-known-number c = search needs
 
 returns : tie.Need-returns
-returns c = cc (info-holds (c .before .before .before .before .before .before .args .file .now) (c .before .before .sound .given .0 .0) (c .before .before .before .before .before .before .args .rate .now) (c .before .before .before .before .before .before .args .channels .now) (c .before .before .before .before .before .before .args .bits .now) (c .before .before .before .before .before .before .args .frames .now) (cc))
+returns c =
+    let a = c .before .before .before .before .before .before .args in
+    holds-told (a .file .now) (a .rate .now) (a .channels .now) (a .bits .now) (a .frames .now) (c .before .before .before .before .sound-in .ensures) (c .before .before .sound .given .1) (c .bits-of .ensures)
 
 returns-2 : tie.Need-returns-2
-returns-2 c = cc (info-refused (c .before .before .before .before .before .args .file .now) (c .before .number .given .0 .0) (c .before .before .before .before .before .args .rate .now) (c .before .before .before .before .before .args .channels .now) (c .before .before .before .before .before .args .bits .now) (c .before .before .before .before .before .args .frames .now) (cc))
+returns-2 c =
+    let a = c .before .before .before .before .before .args in
+    refused-told (a .file .now) (a .rate .now) (a .channels .now) (a .bits .now) (a .frames .now) (c .before .before .before .sound-in .ensures) (c .before .number .given .1)
 
 pub info-spec : {M : Type 1} → statement M
 info-spec =

@@ -1,4 +1,5 @@
 -- `read_found` meets its contract. Assumes nothing.
+use mathlib.Core.Path.{sym}
 use native.Mathlib.Omega.{arith}
 use Rattle.wave_reader.proofs.laws.Read.{read-holds, read-refused, read-other-length, read-room}
 use borrow.Author.Needs.{needs}
@@ -20,7 +21,7 @@ mul-if1 c = search needs
 returns : tie.Need-returns
 returns c =
     let start = c .before .before .before .before .before .before .before .before in
-    cc (read-other-length (start .args .order) (start .args .found) (start .args .file .now) (c .before .before .before .before .found .given .0 .0) (start .args .samples .now) (start .args .rate .now) (cc) (search needs))
+    sym (read-other-length (start .args .order) (start .args .found) (start .args .file .now) (c .before .before .before .before .found .given .0 .0) (start .args .samples .now) (start .args .rate .now) (c .before .before .before .before .found .given .1) (search needs))
 
 read-samples-requires : tie.Need-read-samples-requires
 read-samples-requires c κs =
@@ -38,12 +39,12 @@ same-length c = search needs
 returns-2 : tie.Need-returns-2
 returns-2 c =
     let start = c .before .before .before .before .before .before .before .before .before .before .before .before in
-    cc (read-holds (start .args .order) (start .args .found) (start .args .file .now) (c .before .before .before .before .before .before .before .before .found .given .0 .0) (start .args .samples .now) (start .args .rate .now) (cc) (search needs))
+    cc (read-holds (start .args .order) (start .args .found) (start .args .file .now) (c .before .before .before .before .before .before .before .before .found .given .0 .0) (start .args .samples .now) (start .args .rate .now) (c .before .before .before .before .before .before .before .before .found .given .1) (search needs))
 
 returns-3 : tie.Need-returns-3
 returns-3 c =
     let start = c .before .before .before .before .before in
-    cc (read-refused (start .args .order) (start .args .found) (start .args .file .now) (c .before .found2 .given .0 .0) (start .args .samples .now) (start .args .rate .now) (cc))
+    sym (read-refused (start .args .order) (start .args .found) (start .args .file .now) (c .before .found2 .given .0 .0) (start .args .samples .now) (start .args .rate .now) (c .before .found2 .given .1))
 
 pub read-found-spec : {M : Type 1} → statement M
 read-found-spec =

@@ -1,5 +1,5 @@
 -- `sound_at` meets its contract. Assumes nothing.
-use Rattle.wave_sound.proofs.laws.Sound.{at-known, at-other}
+use Rattle.wave_sound.proofs.laws.Sound.{known-read, other-read}
 use borrow.Author.Needs.{needs}
 use Rattle.wave_sound.proofs.sound.sound_at.Statement.{statement}
 use Rattle.wave_sound.proofs.sound.sound_at.Tie as tie
@@ -51,13 +51,13 @@ enum-told c = search needs
 
 returns : tie.Need-returns
 returns c =
-    let start = c .before .before .before .before .before .before .before .before .before .before .before in
-    cc (at-known (start .args .file .now) (start .args .format) (start .args .body) (c .before .before .encoding .given .0 .0) (cc))
+    let a = c .before .before .before .before .before .before .before .before .before .before .before .args in
+    known-read (a .file .now) (a .format) (a .body) (c .before .before .before .before .before .before .before .before .before .number2-at .ensures .1) (c .before .before .before .before .before .before .before .before .number2-at2 .ensures .1) (c .before .before .before .before .before .before .before .number4-at .ensures) (c .before .before .before .before .before .before .number2-at3 .ensures .1) (c .before .before .before .before .before .number4-at2 .ensures) (c .before .before .before .before .kind-of .ensures) (c .before .before .encoding .given .1) (c .sound-of .ensures)
 
 returns-2 : tie.Need-returns-2
 returns-2 c =
-    let start = c .before .before .before .before .before .before .before .before .before in
-    cc (at-other (start .args .file .now) (start .args .format) (start .args .body) (cc))
+    let a = c .before .before .before .before .before .before .before .before .before .args in
+    other-read (a .file .now) (a .format) (a .body) (c .before .before .before .before .before .before .before .number2-at .ensures .1) (c .before .before .before .before .number2-at3 .ensures .1) (c .before .before .kind-of .ensures) (c .enum-told .given .1)
 
 pub sound-at-spec : {M : Type 1} → statement M
 sound-at-spec =
