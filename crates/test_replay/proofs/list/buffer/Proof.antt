@@ -1,0 +1,12 @@
+-- `buffer` meets its contract, by a law: the length is not counted. Assumes nothing.
+use mathlib.Core.Path.{sym}
+use Prim.Native.Nat.{ℕ}
+use lib.ListN.{length-replicate}
+use Rattle.test_replay.proofs.list.buffer.Statement.{statement}
+use Rattle.test_replay.proofs.list.buffer.Tie as tie
+
+returns : tie.Need-returns
+returns c = sym (length-replicate {A = ℕ} 524288 0)
+
+pub buffer-spec : {M : Type 1} → statement M
+buffer-spec = tie.close (tie.spec returns)
