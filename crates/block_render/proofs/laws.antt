@@ -1,16 +1,2 @@
-pub mod Advance
-pub mod Stands
-pub mod Linked
-pub mod Tables
-pub mod Kept
-pub mod Over
-pub mod Lines
-pub mod Chunk
-pub mod Updated
-pub mod Block
-pub mod Joined
-pub mod Mixed
-pub mod Turn
-pub mod Nanos
-pub mod Ends
 pub mod Cut
+pub mod Waits

@@ -1,5 +1,4 @@
 pub mod Decibels
-pub mod Segment
 pub mod Position
 pub mod WholePart
 pub mod Correction

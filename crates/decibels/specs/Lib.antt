@@ -1,3 +1,2 @@
 pub mod Decibels
-pub mod Segment
 pub mod Answer

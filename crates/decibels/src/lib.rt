@@ -1,12 +1,12 @@
 // Decibels and amplitudes, kira's decibels.rs, with the gain table in place of `powf`.
 mod decibels;
-mod segment;
 mod write;
 
 pub use decibels::Amplitude;
 pub use decibels::AmplitudeAnswer;
 pub use decibels::Decibels;
 pub use decibels::LIMIT;
-pub use segment::Segment;
-pub use segment::segment_of;
+pub use decibels::Position;
+pub use decibels::SILENCE;
+pub use decibels::position_of;
 pub use write::write_amplitude;

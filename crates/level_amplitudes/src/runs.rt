@@ -9,13 +9,13 @@ ghost use lib.Ieee.{binary32};
 ghost use Rattle.limits.specs.Limits.{chunkFramesMost};
 ghost use Rattle.gain_table.specs.GainTable.{IsGainTable};
 ghost use Rattle.decibels.specs.Decibels.{amplitude, admitted};
-ghost use Rattle.decibels.specs.Segment.{IsSegment, contains};
+ghost use Rattle.gain_segment.specs.Segment.{IsSegment, contains};
 ghost use Rattle.laws.specs.Interpolate.{interpolate};
 ghost use Rattle.level_amplitudes.specs.Amplitudes.{valueAt, withAmplitudes, withRun, Monotone};
 use decibels::Amplitude;
 use decibels::Decibels;
-use decibels::Segment;
-use decibels::segment_of;
+use gain_segment::Segment;
+use gain_segment::segment_of;
 use gain_table::GainTable;
 use limits::CHUNK_FRAMES;
 

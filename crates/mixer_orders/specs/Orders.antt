@@ -7,11 +7,6 @@ use lib.Ieee.{Float}
 use lib.ListN.{getD}
 use Rattle.limits.specs.Limits.{trackPlaces, sendLines, routeLines, orderLines, blocksMost}
 use Rattle.laws.specs.Loop.{upto}
-use Rattle.decibels.specs.declared.decibels.Decibels.{Decibels}
-use Rattle.tween.specs.declared.start_time.StartTime.{StartTime}
-use Rattle.tween.specs.declared.tween.Tween.{Tween}
-use Rattle.parameter.specs.Parameter.{parameterSet}
-use Rattle.playback.specs.PlaybackStateManager.{playbackPause, playbackResume}
 use Rattle.scene.specs.declared.scene.OrderLine.{OrderLine}
 use Rattle.scene.specs.declared.scene.OrderKind.{OrderKind}
 use Rattle.scene.specs.declared.scene.OrderKind.the-variants.{MainVolume, TrackVolume, SendVolume, RouteVolume, Pause, Resume}
@@ -20,22 +15,10 @@ use Rattle.accepted.specs.SceneOk.{Names}
 use Rattle.order_lines.specs.Orders.{tweenOf, resumeTweenOf, counts}
 use Rattle.order_table.specs.Table.{Table, TableSized, blockAt, orderFrom}
 use Rattle.order_links.specs.Links.{blockLinks}
-use Rattle.chunk.specs.declared.chunk.Level.{Level}
 use Rattle.chunk.specs.Flat.{mainFrom, levelFrom, sendFrom}
-use Rattle.parameter_store.specs.Store.{Numbers, parameterFrom, routeLevel, withParameter}
-use Rattle.moving_mixer.specs.State.{routeNumber, sendNumber, mainNumber, volumePlace, fadePlace, playbackAt}
-use Rattle.moving_mixer.specs.Update.{withManager}
-
--- ---- a parameter of this level, and a track's playback state
-
-unfoldable pub parameterSetOn : ℕ → Level → Decibels → Tween → Numbers → Numbers
-parameterSetOn p level target tween n = withParameter p (parameterSet (parameterFrom n p level) target tween) n
-
-unfoldable pub trackPauseOn : List Float → ℕ → Tween → Numbers → Numbers
-trackPauseOn levels j tween n = withManager j (playbackPause (playbackAt j (levelFrom levels (fadePlace j)) n) tween) n
-
-unfoldable pub trackResumeOn : List Float → ℕ → StartTime → Tween → Numbers → Numbers
-trackResumeOn levels j start tween n = withManager j (playbackResume (playbackAt j (levelFrom levels (fadePlace j)) n) start tween) n
+use Rattle.parameter_store.specs.Store.{Numbers, routeLevel}
+use Rattle.moving_mixer.specs.State.{routeNumber, sendNumber, mainNumber, volumePlace}
+use Rattle.mixer_commands.specs.Commands.{parameterSetOn, trackPauseOn, trackResumeOn}
 
 -- ---- an order. A line number counts from 1
 

@@ -1,4 +1,4 @@
-// An accepted scene, rendered block by block.
-mod blocks;
+// An accepted scene, rendered.
+mod start;
 
-pub use blocks::render_scene;
+pub use start::render_scene;

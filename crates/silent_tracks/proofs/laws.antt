@@ -1,7 +1,2 @@
 pub mod Answer
-pub mod Below
-pub mod Held
-pub mod Muted
-pub mod Orders
-pub mod Places
 pub mod Silence

@@ -1,9 +1,5 @@
 // Which tracks of a scene are silent by the input alone: muted, held, or inside such a track.
 mod answer;
-mod below;
-mod held;
-mod muted;
-mod orders;
 mod tracks;
 
 pub use answer::silent;

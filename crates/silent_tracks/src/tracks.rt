@@ -6,9 +6,9 @@ ghost use Rattle.laws.specs.Loop.{changed};
 ghost use Rattle.scene_questions.specs.Places.{stored, Low, placesMost};
 ghost use Rattle.noninterference.specs.Removed.{inside};
 ghost use Rattle.silent_tracks.specs.Silence.{mutedOrHeld, silenceOf};
-use crate::below::parent_of;
-use crate::held::is_held;
-use crate::muted::is_muted;
+use muted_or_held::is_held;
+use muted_or_held::is_muted;
+use muted_or_held::parent_of;
 use scene_tables::TABLES;
 
 fn is_muted_or_held(

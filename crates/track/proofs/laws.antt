@@ -1,9 +1,5 @@
-pub mod Sound
 pub mod Sub
-pub mod Send
 pub mod Mix
-pub mod Steady
-pub mod Owners
 pub mod Running
 pub mod RunningSends
 pub mod Routes

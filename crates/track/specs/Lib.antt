@@ -1,5 +1,2 @@
-pub mod Sound
 pub mod Sub
-pub mod Send
 pub mod Mix
-pub mod Owners

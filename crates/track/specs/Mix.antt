@@ -10,9 +10,9 @@ use Rattle.chunk.specs.declared.chunk.Chunk.{Chunk}
 use Rattle.frame.specs.Frame.{zeroFrame, added, scaled}
 use Rattle.frame.specs.Layout.{frameAt}
 use Rattle.chunk.specs.Chunk.{amountAt, levelAmplitude, sendRow}
-use Rattle.track.specs.Sound.{withSounds}
+use Rattle.track_sounds.specs.Sound.{withSounds}
 use Rattle.track.specs.Sub.{overSubTracks, trackFrame, withSubSends}
-use Rattle.track.specs.Send.{sendFrame, addedSend, sendLayout}
+use Rattle.send_track.specs.Send.{sendFrame, addedSend, sendLayout}
 
 -- what all tracks add to send track s, counted from 1
 unfoldable pub sendInput : Chunk → Recordings → ℕ → ℕ → Frame

@@ -9,7 +9,7 @@ use Rattle.frame.specs.declared.frame.Frame.{Frame}
 use Rattle.chunk.specs.declared.chunk.Chunk.{Chunk}
 use Rattle.frame.specs.Frame.{zeroFrame, added, scaled}
 use Rattle.chunk.specs.Chunk.{amountAt, trackAmplitude, trackRow, routeRow}
-use Rattle.track.specs.Sound.{withSounds}
+use Rattle.track_sounds.specs.Sound.{withSounds}
 unfoldable pub use Rattle.track_volume.specs.TrackVolume.{placed, trackPlaced, trackScaled, trackPlacedScaled}
 
 -- Each track right below `line`, latest line first: its step is taken on the value so far. Track j, counted from 0, is line j + 1.

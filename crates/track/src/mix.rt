@@ -8,15 +8,10 @@ ghost use Rattle.limits.specs.Limits.{trackDepth};
 ghost use Rattle.frame.specs.Layout.{scratch, withFrames};
 ghost use Rattle.chunk.specs.Chunk.{ChunkOk, partsOf};
 ghost use Rattle.chunk.specs.Flat.{chunkFrom};
-ghost use Rattle.track.specs.Owners.{SubTrackLinks, soundLinks, routeLinks, LinksOf};
+ghost use Rattle.track_sounds.specs.Owners.{SubTrackLinks, soundLinks, routeLinks, LinksOf};
 ghost use Rattle.track.specs.Sub.{withSubSends};
 ghost use Rattle.track.specs.Mix.{mixedSet, tracksSet, withSendTracks};
-ghost use Rattle.track.specs.Send.{sendPlaces, onSends, SendsRunning};
-use crate::send::SEND_PART;
-use crate::send::add_send;
-use crate::send::apply_level;
-use crate::send::clear_sends;
-use crate::sounds::add_sounds;
+ghost use Rattle.send_track.specs.Send.{sendPlaces, onSends, SendsRunning};
 use crate::sub;
 use chunk::Amplitudes;
 use chunk::FRAMES;
@@ -32,6 +27,11 @@ use limits::TRACK_DEPTH;
 use links::Links;
 use links::last_line;
 use links::line_before;
+use send_track::SEND_PART;
+use send_track::add_send;
+use send_track::apply_level;
+use send_track::clear_sends;
+use track_sounds::add_sounds;
 
 // Sets `out` to the sum of the tracks right under the mixer, latest line first.
 fn process_tracks<'a>(

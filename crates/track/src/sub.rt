@@ -10,12 +10,10 @@ ghost use Rattle.frame.specs.Layout.{scratch, frameAt, withFrames};
 ghost use Rattle.chunk.specs.Chunk.{ChunkOk, partsOf, trackRow};
 ghost use Rattle.chunk.specs.Flat.{chunkFrom};
 ghost use Rattle.links.specs.Links.{lastLine, lineBefore};
-ghost use Rattle.track.specs.Owners.{SubTrackLinks, soundLinks, routeLinks};
+ghost use Rattle.track_sounds.specs.Owners.{SubTrackLinks, soundLinks, routeLinks};
 ghost use Rattle.frame.specs.Running.{AllRunning, AllZero};
 ghost use Rattle.track.specs.Sub.{trackFrame, withTrackSends, withSubSends, sumSet, withRoutesFrom, trackPlacedScaled};
-ghost use Rattle.track.specs.Send.{sendPlaces, onSends, SendsRunning};
-use crate::send::SEND_PART;
-use crate::sounds::add_sounds_and_scale;
+ghost use Rattle.send_track.specs.Send.{sendPlaces, onSends, SendsRunning};
 use chunk::Amplitudes;
 use chunk::ChunkTrack;
 use chunk::FRAMES;
@@ -34,6 +32,8 @@ use limits::CHUNK_FRAMES;
 use links::Links;
 use links::last_line;
 use links::line_before;
+use send_track::SEND_PART;
+use track_sounds::add_sounds_and_scale;
 use track_volume::FEW;
 
 // What a chunk's frames are mixed in.

@@ -1,3 +1,2 @@
 pub mod Steady
 pub mod Placing
-pub mod Sounds

@@ -1,8 +1,5 @@
-// What a track's frames are scaled by: its placing, and then volume times fade; alone, and with the
-// last sounds.
-mod sounds;
+// What a track's frames are scaled by: its placing, and then volume times fade.
 mod volume;
 
-pub use sounds::add_last_sounds;
 pub use volume::FEW;
 pub use volume::apply_placing_and_volume;

@@ -11,7 +11,7 @@ use Rattle.scene.specs.declared.scene.Head.{Head}
 use Rattle.chunk.specs.Chunk.{partsOf}
 use Rattle.renderer.specs.Renderer.{chunkCount, chunkFrames}
 use Rattle.moving_mixer.specs.State.{Arrays}
-use Rattle.block_render.specs.Block.{blockHead, chunkArrays, blockHeard, BlockAsks}
+use Rattle.chunk_render.specs.Block.{blockHead, chunkArrays, blockHeard, BlockAsks}
 
 pub cut-still : {still : Bool} (h : Head) {g : Head} → still ≡ true → g ≡ blockHead true h → g ≡ blockHead still h
 cut-still h t e = e ∙ ap (λ (x : Bool). blockHead x h) (sym t)

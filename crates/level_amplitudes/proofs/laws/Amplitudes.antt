@@ -18,10 +18,10 @@ use Rattle.laws.proofs.laws.Runs.{from, run-none, run-turn, run-after}
 use Rattle.laws.proofs.laws.FloatRound.{inside-bounds}
 use Rattle.laws.specs.Interpolate.{interpolate}
 use Rattle.decibels.specs.declared.decibels.Decibels.{Decibels}
-use Rattle.decibels.specs.declared.segment.Segment.{Segment}
+use Rattle.gain_segment.specs.declared.segment.Segment.{Segment}
 use Rattle.decibels.specs.Decibels.{amplitude, admitted}
-use Rattle.decibels.specs.Segment.{decibelsAt, segment, segmentOf, IsSegment, contains}
-use Rattle.decibels.proofs.laws.Segment.{segment-is}
+use Rattle.gain_segment.specs.Segment.{decibelsAt, segment, segmentOf, IsSegment, contains}
+use Rattle.gain_segment.proofs.laws.Segment.{segment-is}
 use Rattle.level_amplitudes.specs.Amplitudes.{valueAt, amplitudeAt, withAmplitudes, withRun, Monotone}
 
 -- ---- the ends of a segment are f32 numbers

@@ -31,7 +31,7 @@ use Rattle.moving_mixer.proofs.laws.Over.{mixerOver}
 use Rattle.moving_mixer.specs.State.{Arrays, arrays, fadeNumber, routeNumber, sendNumber, mainNumber, volumePlace, fadePlace, playbackAt, mixerTrack, mixerRoute, mixerSend, mixerMain}
 use Rattle.moving_mixer.specs.Update.{withManager}
 use Rattle.moving_mixer.proofs.laws.Moved.{OthersKept, PlaybackKept, put-kept, manager-kept, manager-here}
-use Rattle.mixer_orders.specs.Orders.{parameterSetOn, trackPauseOn, trackResumeOn}
+use Rattle.mixer_commands.specs.Commands.{parameterSetOn, trackPauseOn, trackResumeOn}
 use Rattle.mixer_orders.proofs.laws.Rows.{Room, main-changed, track-changed, send-changed, route-changed}
 use Rattle.mixer_orders.proofs.laws.Levels.{pause-level, resume-level}
 

@@ -28,7 +28,8 @@ use Rattle.moving_mixer.proofs.laws.Over.{mixerOver}
 use Rattle.moving_mixer.specs.State.{Arrays, arrays}
 use Rattle.moving_mixer.specs.Update.{withManager}
 use Rattle.mixer_orders.proofs.laws.OrdersOn.{ordersOn}
-use Rattle.mixer_orders.specs.Orders.{parameterSetOn, trackPauseOn, trackResumeOn, orderOn, resumeOn, orderStepOn, resumeStepOn, stateOrdered, IndexThere, OrderThere}
+use Rattle.mixer_commands.specs.Commands.{parameterSetOn, trackPauseOn, trackResumeOn}
+use Rattle.mixer_orders.specs.Orders.{orderOn, resumeOn, orderStepOn, resumeStepOn, stateOrdered, IndexThere, OrderThere}
 use Rattle.mixer_orders.proofs.laws.Rows.{Room}
 use Rattle.mixer_orders.proofs.laws.Order.{set-main, set-track, set-send, set-route, pause-track, resume-track}
 

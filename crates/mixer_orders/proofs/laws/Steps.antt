@@ -7,49 +7,16 @@ use borrow.Author.Tests.{ne-eqb}
 use lib.Dec.{eqb}
 use lib.Ieee.{Float}
 use Rattle.laws.proofs.laws.Choice.{cond-true, cond-false, first-no}
-use Rattle.decibels.specs.declared.decibels.Decibels.{Decibels}
-use Rattle.tween.specs.declared.start_time.StartTime.{StartTime}
 use Rattle.tween.specs.declared.tween.Tween.{Tween}
-use Rattle.parameter.specs.declared.parameter.Parameter.{Parameter}
-use Rattle.parameter.specs.Parameter.{parameterNew, parameterSet}
-use Rattle.playback.specs.declared.playback_state_manager.PlaybackStateManager.{PlaybackStateManager}
-use Rattle.playback.specs.PlaybackStateManager.{playbackPause, playbackResume}
 use Rattle.scene.specs.declared.scene.OrderLine.{OrderLine}
 use Rattle.scene.specs.declared.scene.OrderKind.{OrderKind}
 use Rattle.scene.specs.declared.scene.OrderKind.the-variants.{MainVolume, TrackVolume, SendVolume, RouteVolume, Pause, Resume}
 use Rattle.order_lines.specs.Orders.{tweenOf, resumeTweenOf, counts}
-use Rattle.chunk.specs.declared.chunk.Level.{Level}
 use Rattle.chunk.specs.Flat.{mainFrom, levelFrom, sendFrom}
-use Rattle.parameter_store.specs.Store.{Numbers, parameterFrom, routeLevel, withParameter}
-use Rattle.moving_mixer.specs.State.{routeNumber, sendNumber, mainNumber, volumePlace, fadePlace, playbackAt}
-use Rattle.moving_mixer.specs.Update.{withManager}
-use Rattle.mixer_orders.specs.Orders.{parameterSetOn, trackPauseOn, trackResumeOn, orderOn, resumeOn, lineOf, orderStepOn, resumeStepOn, IndexThere}
-
--- ---- a parameter: a new one of its value now, once set, puts the same numbers
-
-module _ (n : Numbers) (p : ℕ) (target : Decibels) (tween : Tween) where
-  new-put : (level : Level) → withParameter p (parameterSet (parameterNew (level .now)) target tween) n ≡ parameterSetOn p level target tween n
-  unfolding parameterSetOn withParameter parameterSet parameterNew parameterFrom
-  new-put level = refl
-
-  pub set-put : (level : Level) {x y : Parameter} {m : Numbers} → x ≡ parameterNew (level .now) → y ≡ parameterSet x target tween → m ≡ withParameter p y n → m ≡ parameterSetOn p level target tween n
-  set-put level e f k = k ∙ ap (λ (z : Parameter). withParameter p z n) (f ∙ ap (λ (z : Parameter). parameterSet z target tween) e) ∙ new-put level
-
-  -- its level was read
-  pub set-read : {l level : Level} {m : Numbers} → l ≡ level → m ≡ parameterSetOn p l target tween n → m ≡ parameterSetOn p level target tween n
-  set-read e k = k ∙ ap (λ (z : Level). parameterSetOn p z target tween n) e
-
--- ---- a playback state
-
-module _ (n : Numbers) (j : ℕ) where
-  module _ (levels : List Float) (tween : Tween) where
-    pub pause-put : {l : Level} {x y : PlaybackStateManager} {m : Numbers} → l ≡ levelFrom levels (fadePlace j) → x ≡ playbackAt j l n → y ≡ playbackPause x tween → m ≡ withManager j y n → m ≡ trackPauseOn levels j tween n
-    unfolding trackPauseOn
-    pause-put a b c k = rw (k, c, b, a) refl
-
-    pub resume-put : (start : StartTime) {l : Level} {x y : PlaybackStateManager} {m : Numbers} → l ≡ levelFrom levels (fadePlace j) → x ≡ playbackAt j l n → y ≡ playbackResume x start tween → m ≡ withManager j y n → m ≡ trackResumeOn levels j start tween n
-    unfolding trackResumeOn
-    resume-put start a b c k = rw (k, c, b, a) refl
+use Rattle.parameter_store.specs.Store.{Numbers, routeLevel}
+use Rattle.moving_mixer.specs.State.{routeNumber, sendNumber, mainNumber, volumePlace}
+use Rattle.mixer_commands.specs.Commands.{parameterSetOn, trackPauseOn, trackResumeOn}
+use Rattle.mixer_orders.specs.Orders.{orderOn, resumeOn, lineOf, orderStepOn, resumeStepOn, IndexThere}
 
 -- ---- an order, by its kind
 

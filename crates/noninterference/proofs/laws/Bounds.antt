@@ -33,7 +33,7 @@ use Rattle.chunk.specs.declared.chunk.ChunkTrack.{ChunkTrack}
 use Rattle.frame.specs.Frame.{zeroFrame, added}
 use Rattle.chunk.specs.Chunk.{amountAt, levelAmplitude, trackAmplitude, LevelInRange, ChunkOk, trackRow, soundRow}
 use Rattle.chunk.proofs.laws.Chunk.{IsAmount, amount-is, level-admitted}
-use Rattle.track.specs.Sound.{soundFrame, addedSound, withSounds}
+use Rattle.track_sounds.specs.Sound.{soundFrame, addedSound, withSounds}
 use Rattle.track.specs.Sub.{overSubTracks, placed, trackFrame, sumOver, trackSum}
 use Rattle.frame.specs.Running.{Both}
 use Rattle.track.proofs.laws.Running.{both-added, both-zero, picked-if}

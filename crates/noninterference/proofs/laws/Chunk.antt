@@ -16,7 +16,7 @@ use Rattle.chunk.specs.declared.chunk.ChunkTrack.{ChunkTrack}
 use Rattle.chunk.specs.declared.chunk.ChunkRoute.{ChunkRoute}
 use Rattle.chunk.specs.declared.chunk.Chunk.{Chunk}
 use Rattle.chunk.specs.Chunk.{amountAt, levelAmplitude, ChunkOk, routeRow, soundRow, trackRow, sendRow}
-use Rattle.track.specs.Sound.{soundFrame}
+use Rattle.track_sounds.specs.Sound.{soundFrame}
 use Rattle.noninterference.specs.Removed.{newLine}
 use Rattle.noninterference.proofs.laws.Lines.{keptLine, openLine}
 

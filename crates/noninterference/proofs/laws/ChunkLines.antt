@@ -19,7 +19,7 @@ use Rattle.accepted.specs.Lines.{trackLine, routeLine, soundLine, placingAt}
 use Rattle.frame.specs.declared.frame.Frame.{Frame}
 use Rattle.chunk.specs.declared.chunk.ChunkSound.{ChunkSound}
 use Rattle.frame.specs.Frame.{zeroFrame, sampleFrame}
-use Rattle.track.specs.Sound.{soundFrame}
+use Rattle.track_sounds.specs.Sound.{soundFrame}
 use Rattle.mixer.specs.declared.mixer.Mixer.{Mixer}
 use Rattle.mixer.specs.Mixer.{stateOf, parameterOf}
 use Rattle.mixer_chunk.specs.ChunkOf.{chunkTrack, chunkRoute, chunkSound, chunkTracks, chunkRoutes, chunkSounds, chunkOf, emptyTrackRow, emptyRouteRow, emptySoundRow}

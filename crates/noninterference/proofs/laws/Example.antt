@@ -28,7 +28,7 @@ use Rattle.chunk.specs.declared.chunk.Chunk.{Chunk}
 use Rattle.frame.specs.Frame.{sampleFrame}
 use Rattle.chunk.specs.Chunk.{amountAt, LevelInRange, ChunkOk, trackRow, routeRow, soundRow, sendRow}
 use Rattle.chunk.proofs.laws.Chunk.{amount-is}
-use Rattle.track.specs.Sound.{soundFrame}
+use Rattle.track_sounds.specs.Sound.{soundFrame}
 use Rattle.track.specs.Mix.{mixedFrame}
 use Rattle.noninterference.specs.Removed.{newLine}
 use Rattle.noninterference.proofs.laws.Lines.{keptLine, openLine}

@@ -12,9 +12,9 @@ use Rattle.chunk.specs.declared.chunk.Level.{Level}
 use Rattle.chunk.specs.declared.chunk.Chunk.{Chunk}
 use Rattle.frame.specs.Frame.{zeroFrame, added, scaled}
 use Rattle.chunk.specs.Chunk.{amountAt, levelAmplitude, sendRow}
-use Rattle.track.specs.Sound.{withSounds}
+use Rattle.track_sounds.specs.Sound.{withSounds}
 use Rattle.track.specs.Sub.{withTrackSends, withSubSends}
-use Rattle.track.specs.Send.{sendFrame}
+use Rattle.send_track.specs.Send.{sendFrame}
 use Rattle.track.specs.Mix.{sendInput, tracksFrame, mixedFrame}
 use Rattle.noninterference.specs.Removed.{newLine}
 use Rattle.noninterference.proofs.laws.Lines.{open-zero}

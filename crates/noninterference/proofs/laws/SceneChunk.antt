@@ -27,7 +27,7 @@ use Rattle.chunk.specs.declared.chunk.ChunkTrack.{ChunkTrack}
 use Rattle.chunk.specs.declared.chunk.ChunkRoute.{ChunkRoute}
 use Rattle.chunk.specs.declared.chunk.ChunkSound.{ChunkSound}
 use Rattle.chunk.proofs.laws.Chunk.{amount-is}
-use Rattle.track.specs.Sound.{soundFrame}
+use Rattle.track_sounds.specs.Sound.{soundFrame}
 use Rattle.mixer.specs.declared.mixer.Mixer.{Mixer}
 use Rattle.mixer.specs.Mixer.{stateOf, parameterOf}
 use Rattle.mixer_chunk.specs.ChunkOf.{levelOf, chunkTrack, chunkRoute, chunkSound, chunkSends, chunkOf}

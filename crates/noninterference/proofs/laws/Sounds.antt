@@ -11,7 +11,7 @@ use Rattle.laws.proofs.laws.Kept.{downto-kept}
 use Rattle.frame.specs.declared.frame.Frame.{Frame}
 use Rattle.chunk.specs.declared.chunk.Chunk.{Chunk}
 use Rattle.frame.specs.Frame.{added}
-use Rattle.track.specs.Sound.{addedSound, withSounds}
+use Rattle.track_sounds.specs.Sound.{addedSound, withSounds}
 use Rattle.noninterference.specs.Removed.{newLine}
 use Rattle.noninterference.proofs.laws.Lines.{keptLine, openLine, keptLine-suc, same-test, apart, apart-back, chosen-shut, open-kept}
 use Rattle.noninterference.proofs.laws.Chunk.{keptSound, Without}

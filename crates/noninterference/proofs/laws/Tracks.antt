@@ -22,7 +22,7 @@ use Rattle.chunk.specs.declared.chunk.ChunkTrack.{ChunkTrack}
 use Rattle.frame.specs.Frame.{zeroFrame, added, scaled}
 use Rattle.chunk.specs.Chunk.{amountAt, levelAmplitude, trackAmplitude, trackRow, soundRow}
 use Rattle.chunk.proofs.laws.Chunk.{amount-is}
-use Rattle.track.specs.Sound.{soundFrame, withSounds}
+use Rattle.track_sounds.specs.Sound.{soundFrame, withSounds}
 use Rattle.track.specs.Sub.{overSubTracks, placed, trackFrame, sumOver, trackSum}
 use Rattle.noninterference.specs.Removed.{newLine}
 use Rattle.noninterference.proofs.laws.Lines.{openLine, open-suc}

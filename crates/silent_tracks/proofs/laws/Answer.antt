@@ -24,7 +24,7 @@ use Rattle.scene_reader.proofs.laws.Also.{read-whole, input-numbered}
 use Rattle.scene_reader.proofs.laws.Answer.{answered-number}
 use Rattle.scene_reader.proofs.laws.Read.{layout-test, read-placed, read-low}
 use Rattle.silent_tracks.specs.Silence.{silenceOf, silentAnswer, silencesOf}
-use Rattle.silent_tracks.proofs.laws.Places.{table-low}
+use Rattle.muted_or_held.proofs.laws.Places.{table-low}
 
 abbrev pub room : List ℕ → List ℕ → Bool
 room file numbers = eqb (length numbers) (linesAt (tablesOf file) tracks)

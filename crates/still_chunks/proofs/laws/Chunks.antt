@@ -15,7 +15,7 @@ use Rattle.chunk.specs.declared.chunk.ChunkTrack.{ChunkTrack}
 use Rattle.chunk.specs.declared.chunk.ChunkSound.{ChunkSound}
 use Rattle.chunk.specs.Chunk.{trackRow, soundRow, sendRow, isSteady, steadyAmplitude, ChunkOk}
 use Rattle.track_volume.specs.TrackVolume.{placed}
-use Rattle.track.specs.Sound.{withSounds}
+use Rattle.track_sounds.specs.Sound.{withSounds}
 use Rattle.track.specs.Sub.{overSubTracks, sumOver, withRoutes}
 
 -- volume times fade

@@ -19,7 +19,7 @@ use Rattle.chunk.specs.declared.chunk.Chunk.{Chunk}
 use Rattle.chunk.specs.declared.chunk.ChunkSound.{ChunkSound}
 use Rattle.chunk.specs.Chunk.{steadyAmplitude, absentSoundRow, trackRow, sendRow, soundRow}
 use Rattle.track_volume.specs.TrackVolume.{placed}
-use Rattle.track.specs.Sound.{soundFrame, addedSound, withSounds}
+use Rattle.track_sounds.specs.Sound.{soundFrame, addedSound, withSounds}
 use Rattle.track.specs.Sub.{overSubTracks, sumOver, withRoutes}
 use Rattle.still_chunks.proofs.laws.Chunks.{stillTrackAmplitude, stillTrackFrame, withStillTrackSends, stillSendInput, stillTracksFrame, stillMixedFrame, linePlays, soundAfter, Shifted}
 use Rattle.still_chunks.proofs.laws.Still.{cond-same, over-cong, frames-cong}

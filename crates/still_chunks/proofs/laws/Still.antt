@@ -15,8 +15,8 @@ use Rattle.chunk.specs.declared.chunk.Chunk.{Chunk}
 use Rattle.chunk.specs.Chunk.{amountAt, trackAmplitude, steadyAmplitude, trackRow, sendRow, ChunkOk}
 use Rattle.track_volume.specs.TrackVolume.{placed}
 use Rattle.track_volume.proofs.laws.Steady.{product, steady-at}
-use Rattle.track.specs.Sound.{withSounds}
-use Rattle.track.specs.Send.{sendFrame}
+use Rattle.track_sounds.specs.Sound.{withSounds}
+use Rattle.send_track.specs.Send.{sendFrame}
 use Rattle.track.specs.Sub.{overSubTracks, sumOver, trackFrame, withRoutes, withTrackSends, withSubSends}
 use Rattle.track.specs.Mix.{sendInput, tracksFrame, mixedFrame}
 use Rattle.still_chunks.proofs.laws.Chunks.{stillTrackAmplitude, stillTrackFrame, withStillTrackSends, stillSendInput, stillTracksFrame, stillMixedFrame, StillChunk}

@@ -29,9 +29,9 @@ use Rattle.scene_questions.specs.Questions.{speedOf}
 use Rattle.frame.specs.Frame.{added, scaled, clamp, clamped, addedFrom, addedScaled, sampleFrame}
 use Rattle.frame.specs.Layout.{frameAt, putFrame}
 use Rattle.chunk.specs.Chunk.{amountAt, levelAmplitude, trackAmplitude}
-use Rattle.track.specs.Sound.{soundFrame, addedSound, withSounds}
+use Rattle.track_sounds.specs.Sound.{soundFrame, addedSound, withSounds}
 use Rattle.track.specs.Sub.{overSubTracks, placed, trackFrame, withRoutes, withTrackSends, trackScaled, withRoutesFrom, sumOver, withSubSends}
-use Rattle.track.specs.Send.{onSends, sendFrame, levelScaled, addedSend}
+use Rattle.send_track.specs.Send.{onSends, sendFrame, levelScaled, addedSend}
 use Rattle.track.specs.Mix.{sendInput, tracksFrame, mixedFrame, tracksSet, withSendTracks, mixedSet}
 use Rattle.mixer.specs.Sub.{trackNew, trackMoved, trackStill, trackUpdate, trackSet, trackPause, trackResume}
 use Rattle.mixer.specs.Mixer.{emptyTrack, emptyParameter, emptyClock, clocksNew, tracksNew, sendsNew, routesNew, mixerNew, liveAbove, trackStep, tracksUpdate, updatedWhere, routeUpdate, routesUpdate, sendsUpdate, mixerUpdate}

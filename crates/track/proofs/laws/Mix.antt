@@ -15,12 +15,12 @@ use Rattle.chunk.specs.declared.chunk.Chunk.{Chunk}
 use Rattle.frame.specs.Frame.{cleared, zeroFrame, added, scaled}
 use Rattle.frame.specs.Layout.{scratch, frameAt, withFrames}
 use Rattle.chunk.specs.Chunk.{amountAt, levelAmplitude, sendRow}
-use Rattle.track.specs.Sound.{withSounds}
-use Rattle.track.specs.Send.{sendFrame, levelScaled, addedSend, sendPlaces, sendLayout, onSends, clearedSends}
+use Rattle.track_sounds.specs.Sound.{withSounds}
+use Rattle.send_track.specs.Send.{sendFrame, levelScaled, addedSend, sendPlaces, sendLayout, onSends, clearedSends}
 use Rattle.track.specs.Sub.{withSubSends}
 use Rattle.track.specs.Mix.{sendInput, tracksFrame, mixedFrame, tracksSet, withSendTracks, mixedSet}
 use Rattle.frame.proofs.laws.Layout.{Step, first-cong, first-twice}
-use Rattle.track.proofs.laws.Send.{SendStep, onSends-at, cleared-length, cleared-at}
+use Rattle.send_track.proofs.laws.Send.{SendStep, onSends-at, cleared-length, cleared-at}
 use Rattle.track.proofs.laws.Sub.{subSum}
 
 pub tracks-mixed : (c : Chunk) (samples : Recordings) (l : List Float) {last : List Float} → 2 * c .frames ≤ length l → last ≡ withFrames (scratch 0 (c .frames)) (subSum trackDepth c samples 0) (withFrames (scratch 0 (c .frames)) cleared l) → last ≡ withFrames (scratch 0 (c .frames)) (tracksSet c samples) l

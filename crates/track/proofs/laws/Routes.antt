@@ -18,11 +18,11 @@ use Rattle.chunk.specs.declared.chunk.Chunk.{Chunk}
 use Rattle.chunk.specs.declared.chunk.ChunkRoute.{ChunkRoute}
 use Rattle.chunk.specs.Chunk.{ChunkOk, routeRow}
 use Rattle.links.specs.Links.{lastLine, lineBefore}
-use Rattle.track.specs.Owners.{routeLinks}
-use Rattle.track.specs.Send.{sendPart, sendPlaces, sendLayout, onSends}
+use Rattle.track_sounds.specs.Owners.{routeLinks}
+use Rattle.send_track.specs.Send.{sendPart, sendPlaces, sendLayout, onSends}
 use Rattle.track.specs.Sub.{withRoutesFrom}
-use Rattle.track.proofs.laws.Send.{allSends, sends-steps}
-use Rattle.track.proofs.laws.Owners.{Follows, Skips, follow-start, follow-less, follow-turn, follow-done}
+use Rattle.send_track.proofs.laws.Send.{allSends, sends-steps}
+use Rattle.track_sounds.proofs.laws.Owners.{Follows, Skips, follow-start, follow-less, follow-turn, follow-done}
 use Rattle.track.proofs.laws.Sub.{routeBack, route-taken, route-left, routes-done}
 
 -- the track of the route on line k + 1, counted from the end

@@ -17,10 +17,10 @@ use Rattle.frame.specs.Layout.{frameAt}
 use Rattle.frame.specs.Running.{Both, Running}
 use Rattle.chunk.specs.declared.chunk.Chunk.{Chunk}
 use Rattle.chunk.specs.Chunk.{trackRow, routeRow}
-use Rattle.track.specs.Send.{sendPlaces, sendLayout, onSends, clearedSends, SendsRunning}
+use Rattle.send_track.specs.Send.{sendPlaces, sendLayout, onSends, clearedSends, SendsRunning}
 use Rattle.track.specs.Sub.{overSubTracks, trackFrame, withRoutes, withTrackSends}
 use Rattle.track.proofs.laws.Running.{running-zero, running-added, scaled-fits, picked-if}
-use Rattle.track.proofs.laws.Send.{onSends-at, cleared-at}
+use Rattle.send_track.proofs.laws.Send.{onSends-at, cleared-at}
 
 module _ (c : Chunk) (samples : Recordings) where
   routes-running : (line s : ℕ) (frame a : Frame) → Both Running a → Both Running (withRoutes c line s frame a)

@@ -21,13 +21,13 @@ use Rattle.frame.specs.Frame.{zeroFrame, added, scaled, addedFrom, addedScaled}
 use Rattle.frame.specs.Layout.{scratch, frameAt, withFrames}
 use Rattle.frame.specs.Running.{AllRunning, AllZero}
 use Rattle.chunk.specs.Chunk.{amountAt, trackAmplitude, routeRow, trackRow}
-use Rattle.track.specs.Sound.{withSounds}
-use Rattle.track.specs.Send.{sendPlaces, sendLayout, onSends}
+use Rattle.track_sounds.specs.Sound.{withSounds}
+use Rattle.send_track.specs.Send.{sendPlaces, sendLayout, onSends}
 use Rattle.track.specs.Sub.{overSubTracks, sumOver, trackSum, trackFrame, withRoutes, withTrackSends, withSubSends, placed, sumSet, trackPlaced, trackScaled, trackPlacedScaled, withRoutesFrom}
 use Rattle.frame.proofs.laws.Layout.{Step, first-at, first-cong, first-cong-at, first-held, first-twice}
 use Rattle.frame.proofs.laws.Turn.{step-picked}
 use Rattle.track.proofs.laws.Running.{zeros, absorbed}
-use Rattle.track.proofs.laws.Send.{SendStep, allSends, onSends-cong, onSends-same, onSends-twice, one-send}
+use Rattle.send_track.proofs.laws.Send.{SendStep, allSends, onSends-cong, onSends-same, onSends-twice, one-send}
 
 -- ---- routes
 

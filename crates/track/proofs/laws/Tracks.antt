@@ -16,11 +16,11 @@ use Rattle.frame.specs.Running.{AllRunning}
 use Rattle.frame.proofs.laws.Turn.{frames-steps}
 use Rattle.chunk.specs.declared.chunk.Chunk.{Chunk}
 use Rattle.chunk.specs.Chunk.{ChunkOk, trackRow}
-use Rattle.track.specs.Owners.{usedParent, SubTrackLinks}
-use Rattle.track.specs.Send.{sendPlaces, onSends, SendsRunning}
+use Rattle.track_sounds.specs.Owners.{usedParent, SubTrackLinks}
+use Rattle.send_track.specs.Send.{sendPlaces, onSends, SendsRunning}
 use Rattle.track.specs.Sub.{trackFrame, withTrackSends, withSubSends}
-use Rattle.track.proofs.laws.Send.{allSends, sends-steps}
-use Rattle.track.proofs.laws.Owners.{Follows, follow-start, follow-less, follow-turn, follow-done}
+use Rattle.send_track.proofs.laws.Send.{allSends, sends-steps}
+use Rattle.track_sounds.proofs.laws.Owners.{Follows, follow-start, follow-less, follow-turn, follow-done}
 use Rattle.track.proofs.laws.Sub.{subStep, subSend, subSum, sub-taken, send-taken, sub-done, send-done}
 use Rattle.track.proofs.laws.Unused.{sum-skips, sends-skip}
 

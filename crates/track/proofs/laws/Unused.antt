@@ -37,13 +37,13 @@ use Rattle.chunk.specs.declared.chunk.ChunkTrack.{ChunkTrack}
 use Rattle.chunk.specs.declared.chunk.Chunk.{Chunk}
 use Rattle.chunk.specs.Chunk.{amountAt, levelAmplitude, trackAmplitude, LevelInRange, ChunkOk, trackRow, routeRow, soundRow}
 use Rattle.chunk.proofs.laws.Chunk.{IsAmount, amount-is, level-admitted}
-use Rattle.track.specs.Owners.{UsedTracks, usedParent}
-use Rattle.track.specs.Send.{sendLayout, SendsRunning}
-use Rattle.track.specs.Sound.{addedSound, withSounds}
+use Rattle.track_sounds.specs.Owners.{UsedTracks, usedParent}
+use Rattle.send_track.specs.Send.{sendLayout, SendsRunning}
+use Rattle.track_sounds.specs.Sound.{addedSound, withSounds}
 use Rattle.track.specs.Sub.{overSubTracks, sumOver, trackSum, trackFrame, withRoutes, withTrackSends, placed}
 use Rattle.track.proofs.laws.Running.{zeros, running-zero, picked-if, absorbed}
-use Rattle.track.proofs.laws.Send.{allSends, onSends-held}
-use Rattle.track.proofs.laws.Owners.{Skips}
+use Rattle.send_track.proofs.laws.Send.{allSends, onSends-held}
+use Rattle.track_sounds.proofs.laws.Owners.{Skips}
 use Rattle.track.proofs.laws.Sub.{subStep, subSend}
 
 -- ---- what a track's frames are scaled by is finite

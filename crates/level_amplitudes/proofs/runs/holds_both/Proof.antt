@@ -2,7 +2,7 @@
 use mathlib.Core.Path.{_∙_, sym}
 use borrow.Author.Needs.{needs}
 use Rattle.laws.proofs.laws.Choice.{first-no, first-yes}
-use Rattle.decibels.specs.Segment.{contains}
+use Rattle.gain_segment.specs.Segment.{contains}
 use Rattle.level_amplitudes.proofs.runs.holds_both.Statement.{statement}
 use Rattle.level_amplitudes.proofs.runs.holds_both.Tie as tie
 

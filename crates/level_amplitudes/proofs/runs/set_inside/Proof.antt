@@ -8,7 +8,7 @@ use borrow.Author.Needs.{needs}
 use Rattle.level_amplitudes.specs.Amplitudes.{valueAt, withRun}
 use Rattle.level_amplitudes.proofs.laws.Amplitudes.{withRun-none, withRun-turn, withRun-end}
 use Rattle.level_amplitudes.proofs.runs.set_inside.Statement.{statement}
-use Rattle.decibels.specs.Segment.{contains}
+use Rattle.gain_segment.specs.Segment.{contains}
 use Rattle.level_amplitudes.proofs.runs.set_inside.Tie as tie
 
 abbrev Inv-loop : tie.InvT-loop

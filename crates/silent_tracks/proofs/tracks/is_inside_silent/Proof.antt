@@ -3,7 +3,7 @@ use mathlib.Core.Path.{_≡_}
 use Rattle.scene_questions.specs.Places.{stored}
 use Rattle.noninterference.specs.Removed.{insideWithin, inside}
 use Rattle.silent_tracks.specs.Silence.{mutedOrHeld}
-use Rattle.silent_tracks.proofs.laws.Below.{walk-begins, walk-ends, walk-mixer, walk-chosen, walk-on}
+use Rattle.muted_or_held.proofs.laws.Below.{walk-begins, walk-ends, walk-mixer, walk-chosen, walk-on}
 use borrow.Author.Needs.{needs}
 use native.Mathlib.Omega.{arith}
 use Rattle.silent_tracks.proofs.tracks.is_inside_silent.Statement.{statement}

@@ -16,7 +16,7 @@ use Rattle.track.specs.Mix.{withSendTracks}
 use Rattle.frame.proofs.laws.Layout.{Step}
 use Rattle.frame.proofs.laws.Turn.{frames-steps, turns, turn-length, down-turn, down-done}
 use Rattle.track.proofs.mix.add_sends.Statement.{statement}
-use Rattle.track.specs.Send.{addedSend, sendLayout}
+use Rattle.send_track.specs.Send.{addedSend, sendLayout}
 use Rattle.track.proofs.mix.add_sends.Tie as tie
 
 -- send track s's turn, counted from 0

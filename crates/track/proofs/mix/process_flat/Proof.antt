@@ -7,9 +7,9 @@ use Rattle.chunk.specs.declared.chunk.Level.{Level}
 use Rattle.chunk.specs.Chunk.{LevelInRange}
 use Rattle.frame.specs.Layout.{scratch, withFrames}
 use Rattle.chunk.specs.Flat.{chunkFrom}
-use Rattle.track.specs.Sound.{withSounds}
+use Rattle.track_sounds.specs.Sound.{withSounds}
 use Rattle.limits.specs.Limits.{trackDepth}
-use Rattle.track.specs.Send.{levelScaled, onSends}
+use Rattle.send_track.specs.Send.{levelScaled, onSends}
 use Rattle.track.specs.Sub.{withSubSends}
 use Rattle.track.specs.Mix.{tracksSet, withSendTracks}
 use Rattle.frame.proofs.laws.Layout.{kept}

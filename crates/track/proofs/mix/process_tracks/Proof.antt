@@ -18,11 +18,11 @@ use Rattle.track.specs.Sub.{trackFrame, withTrackSends}
 use Rattle.track.proofs.laws.Tracks.{TracksLeft, tracks-begin, tracks-less, tracks-turn, tracks-end}
 use Rattle.track.proofs.laws.Sub.{subSum}
 use Rattle.frame.specs.Running.{AllRunning}
-use Rattle.track.specs.Send.{SendsRunning}
+use Rattle.send_track.specs.Send.{SendsRunning}
 use Rattle.track.proofs.laws.Running.{running-cleared, running-track}
 use Rattle.track.proofs.laws.RunningSends.{sends-running}
 use Rattle.track.proofs.laws.Mix.{tracks-mixed}
-use Rattle.track.proofs.laws.Send.{onSends-length}
+use Rattle.send_track.proofs.laws.Send.{onSends-length}
 use Rattle.track.proofs.mix.process_tracks.Statement.{statement}
 use Rattle.track.proofs.mix.process_tracks.Tie as tie
 

@@ -22,10 +22,10 @@ use Rattle.spatial.specs.Spatial.{PlacingIn}
 use Rattle.chunk.specs.Flat.{chunkFrom}
 use Rattle.track.specs.Sub.{trackFrame, withTrackSends, trackPlacedScaled, sumSet, withSubSends}
 use Rattle.frame.proofs.laws.Layout.{kept}
-use Rattle.track.specs.Send.{SendsRunning}
+use Rattle.send_track.specs.Send.{SendsRunning}
 use Rattle.track.proofs.laws.Running.{zero-silent, running-silent, running-track}
 use Rattle.track.proofs.laws.RunningSends.{sends-running}
-use Rattle.track.proofs.laws.Send.{onSends-length}
+use Rattle.send_track.proofs.laws.Send.{onSends-length}
 use Rattle.track.proofs.laws.Tracks.{TracksLeft, tracks-begin, tracks-less, tracks-turn, tracks-end}
 use Rattle.track.proofs.laws.Sub.{sum-gathered, track-added, track-mixed, track-stopped, track-none, sends-mixed, sends-stopped, sends-none}
 use borrow.Fn.Kinds.{In}
@@ -39,7 +39,7 @@ use Rattle.track.proofs.sub.+gather+process.Lts-process as process-lts
 use Rattle.chunk.proofs.track_at.Reads as track-at-reads
 use Rattle.links.proofs.last_line.Reads as last-line-reads
 use Rattle.links.proofs.line_before.Reads as line-before-reads
-use Rattle.track.proofs.sounds.add_sounds_and_scale.Reads as add-sounds-and-scale-reads
+use Rattle.track_sounds.proofs.add_sounds_and_scale.Reads as add-sounds-and-scale-reads
 use Rattle.track.proofs.sub.hand_on.Reads as hand-on-reads
 use Rattle.track.proofs.sub.+gather+process.{statement}
 use Rattle.track.proofs.sub.+gather+process.Tie.{close}

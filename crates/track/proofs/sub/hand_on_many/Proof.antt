@@ -12,8 +12,8 @@ use Rattle.frame.specs.Layout.{scratch, frameAt, withFrames}
 use Rattle.frame.proofs.laws.Layout.{kept}
 use Rattle.chunk.specs.Flat.{chunkFrom}
 use Rattle.links.specs.Links.{lineBefore}
-use Rattle.track.specs.Send.{sendLayout}
-use Rattle.track.proofs.laws.Owners.{two-there}
+use Rattle.send_track.specs.Send.{sendLayout}
+use Rattle.track_sounds.proofs.laws.Owners.{two-there}
 use Rattle.track.proofs.laws.Routes.{RoutesLeft, routes-begin, routes-less, routes-turn, routes-end, route-sent, parts-order}
 use Rattle.track.proofs.sub.hand_on_many.Statement.{statement}
 use Rattle.track.proofs.sub.hand_on_many.Tie as tie

@@ -1,0 +1,12 @@
+pub mod Stands
+pub mod Linked
+pub mod Tables
+pub mod Kept
+pub mod Over
+pub mod Lines
+pub mod Chunk
+pub mod Updated
+pub mod Mixed
+pub mod Turn
+pub mod Nanos
+pub mod Ends

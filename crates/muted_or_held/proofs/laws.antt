@@ -1,0 +1,5 @@
+pub mod Below
+pub mod Held
+pub mod Muted
+pub mod Orders
+pub mod Places

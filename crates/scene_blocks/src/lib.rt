@@ -1,0 +1,4 @@
+// The blocks of an accepted scene.
+mod blocks;
+
+pub use blocks::render_blocks;

@@ -1,6 +1,0 @@
-pub mod Orders
-pub mod Start
-pub mod Ordered
-pub mod Blocks
-pub mod Waits
-pub mod Turn
