@@ -58,6 +58,16 @@ big4-bytes n h =
     ap (λ (x : ℕ). n / 256 / 256 / 256 % 256 ∷ x % 256 ∷ n / 256 % 256 ∷ n % 256 ∷ []) (div-div-eq-div-mul n 256 256)
     ∙ ap (λ (x : ℕ). x ∷ n / 65536 % 256 ∷ n / 256 % 256 ∷ n % 256 ∷ []) (omega arith)
 
+-- ---- the same in an order that was told
+
+module _ (bytes : List ℕ) (at n : ℕ) {order o : ByteOrder} {x : ℕ} where
+  pub in-order : order ≡ o → x ≡ numberAt o bytes at n → x ≡ numberAt order bytes at n
+  in-order e p = p ∙ ap (λ (i : ByteOrder). numberAt i bytes at n) (sym e)
+
+module _ (bytes : List ℕ) (at n number : ℕ) {order o : ByteOrder} {p l : List ℕ} where
+  pub put-order : order ≡ o → bytesOf o n number ≡ p → l ≡ putAt at p bytes → l ≡ putAt at (bytesOf order n number) bytes
+  put-order e q h = h ∙ ap (λ (i : List ℕ). putAt at i bytes) (sym q ∙ ap (λ (i : ByteOrder). bytesOf i n number) (sym e))
+
 -- ---- written one after the other
 
 module _ (l : List ℕ) (at a b : ℕ) (h : at + 2 ≤ length l) where

@@ -24,6 +24,14 @@ use Rattle.month.proofs.laws.Words.{sum-append, sum-most}
 use Rattle.month.proofs.laws.Peaks.{kept-peak, new-peak, piece-peak, none-in}
 use Rattle.month.proofs.laws.Range.{square-room}
 
+-- ---- totals, by their parts
+
+-- totals with some samples, of what was counted and summed
+pub samples-told : (t : Totals) (before : ℕ) (ws : List ℕ) {q : Peak} {f s : ℕ} → q ≡ higher (t .peak) (peakIn (t .mixes + 1) before ws) → f ≡ full ws → s ≡ squares ws
+    → withSamples t before ws ≡ record { mixes = t .mixes; frames = t .frames; full = t .full + f; peak = q; squares = t .squares + s }
+unfolding withSamples
+samples-told t before ws p e h = cc
+
 -- ---- the first of the largest, of three
 
 higher-none : (q : Peak) → higher noPeak q ≡ q

@@ -6,8 +6,9 @@ use lib.Ieee.{Float, binary32, ofBits}
 use Rattle.byte_order.specs.declared.bytes.ByteOrder.{ByteOrder}
 use Rattle.pcm.specs.declared.sample.Encoding.{Encoding}
 use Rattle.pcm.specs.declared.sample.Encoding.the-variants.{Pcm16, Float32}
-use Rattle.byte_order.specs.Bytes.{numberAt}
-use Rattle.pcm.specs.Sample.{width, sampleOf, sampleAt}
+use Rattle.laws.specs.Pieces.{putAt}
+use Rattle.byte_order.specs.Bytes.{numberAt, bytesOf}
+use Rattle.pcm.specs.Sample.{width, sampleOf, sampleAt, patternOf}
 
 pub pcm-width : (encoding : Encoding) → encoding ≡ Pcm16 → width encoding ≡ 2
 unfolding width
@@ -32,3 +33,11 @@ module _ (order : ByteOrder) (bytes : List ℕ) (at : ℕ) {encoding : Encoding}
 
   pub float-read : encoding ≡ Float32 → n ≡ numberAt order bytes at 4 → x ≡ ofBits binary32 n → x ≡ sampleAt encoding order bytes at
   float-read e p q = cc (float-at order bytes at)
+
+-- a sample's bytes, of a pattern that was made
+module _ (order : ByteOrder) (bytes : List ℕ) (at : ℕ) (x : Float) {encoding : Encoding} {n : ℕ} {l : List ℕ} where
+  pub pcm-put : encoding ≡ Pcm16 → n ≡ patternOf Pcm16 x → l ≡ putAt at (bytesOf order 2 n) bytes → l ≡ putAt at (bytesOf order (width encoding) (patternOf encoding x)) bytes
+  pcm-put e p q = cc (pcm-width encoding e)
+
+  pub float-put : encoding ≡ Float32 → n ≡ patternOf Float32 x → l ≡ putAt at (bytesOf order 4 n) bytes → l ≡ putAt at (bytesOf order (width encoding) (patternOf encoding x)) bytes
+  float-put e p q = cc (float-width encoding e)

@@ -122,6 +122,11 @@ pub own-value : (x : Float) → sampleOf Pcm16 (patternOf Pcm16 x) ≡ sampleOf1
 unfolding sampleOf patternOf
 own-value x = ap sampleOf16 (signed-bits (nearest16 x) (nearest-in x))
 
+-- the test, of what was made on the way
+pub own-told : (x : Float) {n a b : ℕ} {y : Float} → n ≡ patternOf Pcm16 x → y ≡ sampleOf Pcm16 n → a ≡ toBits binary32 y → b ≡ toBits binary32 x → eqb a b ≡ whole16 x
+unfolding whole16
+own-told x p q r s = cc (own-value x)
+
 -- x passes it exactly where it is v / 32768
 pub whole-passes : (x : Float) → Whole16 x → whole16 x ≡ true
 unfolding whole16

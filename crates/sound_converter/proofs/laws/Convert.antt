@@ -58,6 +58,13 @@ module _ (s : Sound) (wave : List ℕ) (room : ℕ) where
   unfolding askedOfWave
   asked-wave a b c = cc
 
+  -- the premises, of a count that was answered
+  pub keeps-told : {count : ℕ} {k b : Bool} → count ≡ valuesOf s → k ≡ keeps16 (s .encoding) Little wave (s .start) count → k ≡ b → keeps16 (s .encoding) Little wave (s .start) (valuesOf s) ≡ b
+  keeps-told e p q = ap (λ (n : ℕ). keeps16 (s .encoding) Little wave (s .start) n) (sym e) ∙ sym p ∙ q
+
+  pub room-told : {count : ℕ} {k b : Bool} → count ≡ valuesOf s → k ≡ roomOk aiffHead (count * 2) room → k ≡ b → roomOk aiffHead (valuesOf s * 2) room ≡ b
+  room-told e p q = ap (λ (n : ℕ). roomOk aiffHead (n * 2) room) (sym e) ∙ sym p ∙ q
+
   pub wave-passed : askedOfWave s wave room ≡ 0
       → (keeps16 (s .encoding) Little wave (s .start) (valuesOf s) ≡ true) × (rateOk (s .rate) ≡ true) × (roomOk aiffHead (valuesOf s * 2) room ≡ true)
   unfolding askedOfWave

@@ -136,3 +136,11 @@ stereo-room start n c w l e z h = subst (λ (x : ℕ). start + x * w ≤ l) (ap 
 -- where the encoding is known
 pub known-room : (a : Encoding) {b : Encoding} (start n l : ℕ) → a ≡ b → start + n * width a ≤ l → start + n * width b ≤ l
 known-room a start n l e h = subst (λ (x : Encoding). start + n * width x ≤ l) e h
+
+-- what was read for a known number of channels, or encoding
+module _ (order : ByteOrder) (bytes : List ℕ) (start n : ℕ) {l : List Float} where
+  pub sides-read : (encoding : Encoding) {channels k : ℕ} → channels ≡ k → l ≡ samplesIn encoding order k bytes start n → l ≡ samplesIn encoding order channels bytes start n
+  sides-read encoding e p = p ∙ ap (λ (k : ℕ). samplesIn encoding order k bytes start n) (sym e)
+
+  pub known-read : (channels : ℕ) {encoding known : Encoding} → encoding ≡ known → l ≡ samplesIn known order channels bytes start n → l ≡ samplesIn encoding order channels bytes start n
+  known-read channels e p = p ∙ ap (λ (x : Encoding). samplesIn x order channels bytes start n) (sym e)

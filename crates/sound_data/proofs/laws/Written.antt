@@ -71,6 +71,16 @@ module _ (encoding : Encoding) (order : ByteOrder) (samples : List Float) where
       whole : (n : ℕ) → n % 2 ≡ 0 → n ≡ n / 2 * 2
       whole n z = omega arith
 
+-- the same of bytes that were written
+module _ (order : ByteOrder) (samples : List Float) (start : ℕ) (bytes : List ℕ) {l : List ℕ} where
+  pub sides-written : (encoding : Encoding) {channels k : ℕ} {p : List ℕ} → channels ≡ k → p ≡ dataOf encoding order k samples → l ≡ putAt start p bytes
+      → l ≡ putAt start (dataOf encoding order channels samples) bytes
+  sides-written encoding e d w = w ∙ ap (λ (x : List ℕ). putAt start x bytes) (d ∙ ap (λ (k : ℕ). dataOf encoding order k samples) (sym e))
+
+  pub known-written : (channels : ℕ) {encoding known : Encoding} → encoding ≡ known → l ≡ putAt start (dataOf known order channels samples) bytes
+      → l ≡ putAt start (dataOf encoding order channels samples) bytes
+  known-written channels e w = w ∙ ap (λ (x : Encoding). putAt start (dataOf x order channels samples) bytes) (sym e)
+
 -- ---- where the values stand
 
 pub left-steps : (n : ℕ) → Steps 2 (n / 2) n

@@ -54,11 +54,11 @@ module _ (l : List ℕ) (h : 44 ≤ length l) where
   unfolding riffOf
   riff-put size e f g = put-three 0 l (omega arith) _ _ _ e f g (behind Big 4 riff 0 4 refl) (behind Little 4 (36 + size) 4 8 refl)
 
-  pub start-put : (channels : ℕ) (encoding : Encoding) {n m k j : List ℕ} → n ≡ putAt 12 (bytesOf Big 4 formatChunk) l → m ≡ putAt 16 (bytesOf Little 4 16) n
-      → k ≡ putAt 20 (bytesOf Little 2 (tagOf encoding)) m → j ≡ putAt 22 (bytesOf Little 2 channels) k → j ≡ putAt 12 (formatStart channels encoding) l
+  pub start-put : (channels : ℕ) (encoding : Encoding) {tag : ℕ} {n m k j : List ℕ} → tag ≡ tagOf encoding → n ≡ putAt 12 (bytesOf Big 4 formatChunk) l → m ≡ putAt 16 (bytesOf Little 4 16) n
+      → k ≡ putAt 20 (bytesOf Little 2 tag) m → j ≡ putAt 22 (bytesOf Little 2 channels) k → j ≡ putAt 12 (formatStart channels encoding) l
   unfolding formatStart
-  start-put channels encoding e f g i =
-      put-four 12 l (omega arith) _ _ _ _ e f g i (behind Big 4 formatChunk 12 16 refl) (behind Little 4 16 16 20 refl) (behind Little 2 (tagOf encoding) 20 22 refl)
+  start-put channels encoding {m = m} {k = k} z e f g i =
+      put-four 12 l (omega arith) _ _ _ _ e f (subst (λ (x : ℕ). k ≡ putAt 20 (bytesOf Little 2 x) m) z g) i (behind Big 4 formatChunk 12 16 refl) (behind Little 4 16 16 20 refl) (behind Little 2 (tagOf encoding) 20 22 refl)
 
   pub rest-put : (rate frame bits : ℕ) {n m k j : List ℕ} → n ≡ putAt 24 (bytesOf Little 4 rate) l → m ≡ putAt 28 (bytesOf Little 4 (rate * frame)) n
       → k ≡ putAt 32 (bytesOf Little 2 frame) m → j ≡ putAt 34 (bytesOf Little 2 bits) k → j ≡ putAt 24 (formatRest rate frame bits) l

@@ -26,7 +26,7 @@ use Rattle.wave_sound.specs.declared.sound.Kind.{Kind}
 use Rattle.wave_sound.specs.declared.sound.Kind.the-variants.{Known, Other}
 use Rattle.wave_sound.specs.Sound.{channelsOk, rateOk}
 use Rattle.wave_sound.proofs.laws.Sound.{both, channels-are, width-pos}
-use Rattle.wave_writer.specs.Write.{headLength, headOf, dataLength, fileOf, fileMost, writing, lengthOk, asked, answered, kindOfBits, writeKind, writeOf, lengthWith, lengthKnown, lengthFor}
+use Rattle.wave_writer.specs.Write.{headLength, headOf, dataLength, fileOf, fileMost, Writing, writing, lengthOk, asked, answered, kindOfBits, writeKind, writeOf, lengthWith, lengthKnown, lengthFor}
 use Rattle.wave_writer.proofs.laws.Head.{length-head}
 
 -- ---- the bits
@@ -255,15 +255,27 @@ module _ (written file : List ℕ) where
   answer-is (suc n) made e = absurd (refused (λ z. omega arith) (answer-refused (suc n) (λ z. omega arith) ∙ e))
 
 module _ (rate channels bits : ℕ) (samples : List Float) (file : List ℕ) where
-  pub write-by : (encoding : Encoding) → kindOfBits bits ≡ Known encoding → writeKind (Known encoding) rate channels samples file ≡ writeOf rate channels bits samples file
+  pub write-by : {w : Writing} {encoding : Encoding} → w ≡ writeKind (Known encoding) rate channels samples file → kindOfBits bits ≡ Known encoding → w ≡ writeOf rate channels bits samples file
   unfolding writeOf
-  write-by encoding e = sym (ap (λ (k : Kind). writeKind k rate channels samples file) e)
+  write-by p e = p ∙ sym (ap (λ (k : Kind). writeKind k rate channels samples file) e)
 
   pub write-other : {n : ℕ} → n ≡ cond (rateOk rate) 15 4 → kindOfBits bits ≡ Other → writing n file ≡ writeOf rate channels bits samples file
   unfolding writeOf writeKind
   write-other z e = ap (λ (n : ℕ). writing n file) z ∙ sym (ap (λ (k : Kind). writeKind k rate channels samples file) e)
 
-pub known-is : (rate channels : ℕ) (encoding : Encoding) (samples : List Float) (file : List ℕ)
-    → answered (asked headLength rate channels encoding samples (length file)) (fileOf rate channels encoding samples) file ≡ writeKind (Known encoding) rate channels samples file
-unfolding writeKind
-known-is rate channels encoding samples file = refl
+module _ (rate channels : ℕ) (encoding : Encoding) (samples : List Float) (file : List ℕ) where
+  pub known-is : answered (asked headLength rate channels encoding samples (length file)) (fileOf rate channels encoding samples) file ≡ writeKind (Known encoding) rate channels samples file
+  unfolding writeKind
+  known-is = refl
+
+  -- the same of a number that was answered
+  pub known-refused : {n : ℕ} → (n ≡ 0 → ⊥) → n ≡ asked headLength rate channels encoding samples (length file) → writing n file ≡ writeKind (Known encoding) rate channels samples file
+  known-refused {n} z e =
+      let written = fileOf rate channels encoding samples in
+      answer-refused written file n z ∙ ap (λ (x : ℕ). answered x written file) e ∙ known-is
+
+  pub known-written : {n : ℕ} {m : List ℕ} → n ≡ 0 → n ≡ asked headLength rate channels encoding samples (length file) → m ≡ fileOf rate channels encoding samples
+      → writing 0 m ≡ writeKind (Known encoding) rate channels samples file
+  known-written {n} z e w =
+      let written = fileOf rate channels encoding samples in
+      ap (writing 0) w ∙ answer-written written file n z ∙ ap (λ (x : ℕ). answered x written file) e ∙ known-is

@@ -1,5 +1,5 @@
 -- `put_number2` meets its contract. Assumes nothing.
-use Rattle.byte_order.proofs.laws.Bytes.{little2-bytes, big2-bytes}
+use Rattle.byte_order.proofs.laws.Bytes.{put-order, little2-bytes, big2-bytes}
 use borrow.Author.Needs.{needs}
 use Rattle.byte_order.proofs.bytes.put_number2.Statement.{statement}
 use Rattle.byte_order.proofs.bytes.put_number2.Tie as tie
@@ -26,13 +26,17 @@ same-length : tie.Need-same-length
 same-length c = search needs
 
 returns : tie.Need-returns
-returns c = cc (little2-bytes (c .before .before .before .before .before .before .before .args .number))
+returns c =
+    let start = c .before .before .before .before .before .before .before in
+    put-order (start .args .bytes .now) (start .args .at) 2 (start .args .number) (c .before .before .before .before .enum-told .given .1) (little2-bytes (start .args .number)) (c .before .before .put2 .ensures)
 
 same-length-2 : tie.Need-same-length-2
 same-length-2 c = search needs
 
 returns-2 : tie.Need-returns-2
-returns-2 c = cc (big2-bytes (c .before .before .before .before .before .before .before .args .number))
+returns-2 c =
+    let start = c .before .before .before .before .before .before .before in
+    put-order (start .args .bytes .now) (start .args .at) 2 (start .args .number) (c .before .before .before .before .enum-told2 .given .1) (big2-bytes (start .args .number)) (c .before .before .put22 .ensures)
 
 pub put-number2-spec : {M : Type 1} → statement M
 put-number2-spec =

@@ -1,5 +1,5 @@
 -- `put_number4` meets its contract. Assumes nothing.
-use Rattle.byte_order.proofs.laws.Bytes.{little4-bytes, big4-bytes}
+use Rattle.byte_order.proofs.laws.Bytes.{put-order, little4-bytes, big4-bytes}
 use borrow.Author.Needs.{needs}
 use Rattle.byte_order.proofs.bytes.put_number4.Statement.{statement}
 use Rattle.byte_order.proofs.bytes.put_number4.Tie as tie
@@ -32,13 +32,17 @@ same-length : tie.Need-same-length
 same-length c = search needs
 
 returns : tie.Need-returns
-returns c = cc (little4-bytes (c .before .before .before .before .before .before .before .args .number) (search needs))
+returns c =
+    let start = c .before .before .before .before .before .before .before in
+    put-order (start .args .bytes .now) (start .args .at) 4 (start .args .number) (c .before .before .before .before .enum-told .given .1) (little4-bytes (start .args .number) (start .fits .number .fits)) (c .before .before .put4 .ensures)
 
 same-length-2 : tie.Need-same-length-2
 same-length-2 c = search needs
 
 returns-2 : tie.Need-returns-2
-returns-2 c = cc (big4-bytes (c .before .before .before .before .before .before .before .args .number) (search needs))
+returns-2 c =
+    let start = c .before .before .before .before .before .before .before in
+    put-order (start .args .bytes .now) (start .args .at) 4 (start .args .number) (c .before .before .before .before .enum-told2 .given .1) (big4-bytes (start .args .number) (start .fits .number .fits)) (c .before .before .put42 .ensures)
 
 pub put-number4-spec : {M : Type 1} → statement M
 put-number4-spec =

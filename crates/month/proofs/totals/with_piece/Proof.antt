@@ -1,10 +1,11 @@
 -- `with_piece` meets its contract. Assumes nothing.
-use mathlib.Core.Path.{_∙_}
+use mathlib.Core.Path.{sym, _∙_}
 use native.Mathlib.Omega.{arith}
 use borrow.Author.Tests.{le-leb}
 use Rattle.month.specs.Month.{oneBits}
-use Rattle.month.specs.Piece.{wordsOf, largest, withSamples}
+use Rattle.month.specs.Piece.{wordsOf, largest}
 use Rattle.month.proofs.laws.Peaks.{in-by-largest}
+use Rattle.month.proofs.laws.Totals.{samples-told}
 use borrow.Author.Needs.{needs}
 use Rattle.month.proofs.totals.with_piece.Statement.{statement}
 use Rattle.month.proofs.totals.with_piece.Tie as tie
@@ -30,9 +31,9 @@ add-t11 : tie.Need-add-t11
 add-t11 c = search needs
 
 returns : tie.Need-returns
-unfolding withSamples
 returns c =
-    cc
+    let a = c .before .before .before .before .before .before .before .args in
+    sym (samples-told (a .totals) (a .before) (wordsOf (a .piece .now)) (c .before .before .before .before .with-largest .ensures) (c .before .before .before .full-of .ensures .1) (c .before .sum-squares .ensures .1))
 
 pub with-piece-spec : {M : Type 1} → statement M
 with-piece-spec =

@@ -1,8 +1,8 @@
 -- `nearest_is` meets its contract. Assumes nothing.
 use native.Mathlib.Omega.{arith}
-use Rattle.pcm.specs.Sample.{whole16, patternOf}
+use Rattle.pcm.specs.Sample.{patternOf}
 use Rattle.pcm.proofs.laws.Sixteen.{from-raised}
-use Rattle.pcm.proofs.laws.Whole.{own-value}
+use Rattle.pcm.proofs.laws.Whole.{own-told}
 use borrow.Author.Needs.{needs}
 use Rattle.pcm.proofs.sample.nearest_is.Statement.{statement}
 use Rattle.pcm.proofs.sample.nearest_is.Tie as tie
@@ -21,8 +21,8 @@ f32-bits-requires-2 : tie.Need-f32-bits-requires-2
 f32-bits-requires-2 c κs = search needs
 
 returns : tie.Need-returns
-unfolding whole16
-returns c = cc (own-value (c .before .before .before .before .args .x))
+returns c =
+    own-told (c .before .before .before .before .args .x) (c .before .before .before .pattern-16 .ensures) (c .before .before .sample-16 .ensures) (c .before .f32-bits .ensures) (c .f32-bits2 .ensures)
 
 pub nearest-is-spec : {M : Type 1} → statement M
 nearest-is-spec =

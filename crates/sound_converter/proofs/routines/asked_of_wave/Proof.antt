@@ -1,13 +1,11 @@
 -- `asked_of_wave` meets its contract. Assumes nothing.
-use mathlib.Core.Path.{refl, sym, ap, _∙_, subst}
+use mathlib.Core.Path.{refl, sym, _∙_, subst}
 use Prim.Native.Nat.{ℕ, _+_, _*_, _≤_}
 use lib.ListN.{length}
 use borrow.Author.Tests.{not-true, not-false}
-use Rattle.byte_order.specs.declared.bytes.ByteOrder.the-variants.{Little}
 use Rattle.pcm.specs.Sample.{width}
-use Rattle.aiff_writer.specs.Write.{headLength as aiffHead}
-use Rattle.sound_converter.specs.Convert.{valuesOf, keeps16, roomOk}
-use Rattle.sound_converter.proofs.laws.Convert.{asked-wave}
+use Rattle.sound_converter.specs.Convert.{valuesOf}
+use Rattle.sound_converter.proofs.laws.Convert.{asked-wave, keeps-told, room-told}
 use borrow.Author.Needs.{needs}
 use Rattle.sound_converter.proofs.routines.asked_of_wave.Statement.{statement}
 use Rattle.sound_converter.proofs.routines.asked_of_wave.Tie as tie
@@ -26,7 +24,7 @@ returns : tie.Need-returns
 returns c =
     let start = c .before .before .before .before in
     let s = start .args .sound in
-    asked-wave s (start .args .wave .now) (start .args .room) (ap (λ (n : ℕ). keeps16 (s .encoding) Little (start .args .wave .now) (s .start) n) (sym (c .before .before .values-of .ensures .1)) ∙ sym (c .before .keeps-16 .ensures) ∙ not-true _ (c .if1 .taken)) refl refl
+    asked-wave s (start .args .wave .now) (start .args .room) (keeps-told s (start .args .wave .now) (start .args .room) (c .before .before .values-of .ensures .1) (c .before .keeps-16 .ensures) (not-true _ (c .if1 .taken))) refl refl
 
 rate-ok-requires : tie.Need-rate-ok-requires
 rate-ok-requires c κs = search needs
@@ -35,7 +33,7 @@ returns-2 : tie.Need-returns-2
 returns-2 c =
     let start = c .before .before .before .before .before .before in
     let s = start .args .sound in
-    asked-wave s (start .args .wave .now) (start .args .room) (ap (λ (n : ℕ). keeps16 (s .encoding) Little (start .args .wave .now) (s .start) n) (sym (c .before .before .before .before .values-of .ensures .1)) ∙ sym (c .before .before .before .keeps-16 .ensures) ∙ not-false _ (c .before .before .if1 .left)) (sym (c .before .rate-ok .ensures) ∙ not-true _ (c .if2 .taken)) refl
+    asked-wave s (start .args .wave .now) (start .args .room) (keeps-told s (start .args .wave .now) (start .args .room) (c .before .before .before .before .values-of .ensures .1) (c .before .before .before .keeps-16 .ensures) (not-false _ (c .before .before .if1 .left))) (sym (c .before .rate-ok .ensures) ∙ not-true _ (c .if2 .taken)) refl
 
 mul-room-ok : tie.Need-mul-room-ok
 mul-room-ok c = search needs
@@ -47,13 +45,13 @@ returns-3 : tie.Need-returns-3
 returns-3 c =
     let start = c .before .before .before .before .before .before .before .before in
     let s = start .args .sound in
-    asked-wave s (start .args .wave .now) (start .args .room) (ap (λ (n : ℕ). keeps16 (s .encoding) Little (start .args .wave .now) (s .start) n) (sym (c .before .before .before .before .before .before .values-of .ensures .1)) ∙ sym (c .before .before .before .before .before .keeps-16 .ensures) ∙ not-false _ (c .before .before .before .before .if1 .left)) (sym (c .before .before .before .rate-ok .ensures) ∙ not-false _ (c .before .before .if2 .left)) (ap (λ (n : ℕ). roomOk aiffHead (n * 2) (start .args .room)) (sym (c .before .before .before .before .before .before .values-of .ensures .1)) ∙ sym (c .before .room-ok .ensures) ∙ not-true _ (c .if3 .taken))
+    asked-wave s (start .args .wave .now) (start .args .room) (keeps-told s (start .args .wave .now) (start .args .room) (c .before .before .before .before .before .before .values-of .ensures .1) (c .before .before .before .before .before .keeps-16 .ensures) (not-false _ (c .before .before .before .before .if1 .left))) (sym (c .before .before .before .rate-ok .ensures) ∙ not-false _ (c .before .before .if2 .left)) (room-told s (start .args .wave .now) (start .args .room) (c .before .before .before .before .before .before .values-of .ensures .1) (c .before .room-ok .ensures) (not-true _ (c .if3 .taken)))
 
 returns-4 : tie.Need-returns-4
 returns-4 c =
     let start = c .before .before .before .before .before .before .before .before in
     let s = start .args .sound in
-    asked-wave s (start .args .wave .now) (start .args .room) (ap (λ (n : ℕ). keeps16 (s .encoding) Little (start .args .wave .now) (s .start) n) (sym (c .before .before .before .before .before .before .values-of .ensures .1)) ∙ sym (c .before .before .before .before .before .keeps-16 .ensures) ∙ not-false _ (c .before .before .before .before .if1 .left)) (sym (c .before .before .before .rate-ok .ensures) ∙ not-false _ (c .before .before .if2 .left)) (ap (λ (n : ℕ). roomOk aiffHead (n * 2) (start .args .room)) (sym (c .before .before .before .before .before .before .values-of .ensures .1)) ∙ sym (c .before .room-ok .ensures) ∙ not-false _ (c .if3 .left))
+    asked-wave s (start .args .wave .now) (start .args .room) (keeps-told s (start .args .wave .now) (start .args .room) (c .before .before .before .before .before .before .values-of .ensures .1) (c .before .before .before .before .before .keeps-16 .ensures) (not-false _ (c .before .before .before .before .if1 .left))) (sym (c .before .before .before .rate-ok .ensures) ∙ not-false _ (c .before .before .if2 .left)) (room-told s (start .args .wave .now) (start .args .room) (c .before .before .before .before .before .before .values-of .ensures .1) (c .before .room-ok .ensures) (not-false _ (c .if3 .left)))
 
 pub asked-of-wave-spec : {M : Type 1} → statement M
 asked-of-wave-spec =

@@ -1,5 +1,5 @@
 -- `wave_to_aiff` meets its contract. Assumes nothing.
-use mathlib.Core.Path.{_∙_}
+use mathlib.Core.Path.{sym, _∙_}
 use Rattle.wave_sound.proofs.laws.Holds.{holds-inside}
 use Rattle.sound_converter.proofs.laws.Convert.{aiff-holds, aiff-refused}
 use borrow.Author.Needs.{needs}
@@ -15,7 +15,7 @@ enum-known-sound c = search needs
 to-aiff-requires : tie.Need-to-aiff-requires
 to-aiff-requires c κs =
     let start = c .before .before .before .before .before .before .before in
-    holds-inside (start .args .wave .now) (c .before .before .sound .given .0 .0) (cc)
+    holds-inside (start .args .wave .now) (c .before .before .sound .given .0 .0) (sym (c .before .before .before .before .sound-in .ensures) ∙ c .before .before .sound .given .1)
 
 enum-known-number : tie.Need-enum-known-number
 enum-known-number c = search needs
@@ -26,12 +26,12 @@ same-length c = search needs
 returns : tie.Need-returns
 returns c =
     let start = c .before .before .before .before .before .before .before .before .before .before in
-    c .before .before .to-aiff .ensures ∙ aiff-holds (start .args .wave .now) (start .args .aiff .now) (c .before .before .before .before .before .sound .given .0 .0) (cc)
+    c .before .before .to-aiff .ensures ∙ aiff-holds (start .args .wave .now) (start .args .aiff .now) (c .before .before .before .before .before .sound .given .0 .0) (sym (c .before .before .before .before .before .before .before .sound-in .ensures) ∙ c .before .before .before .before .before .sound .given .1)
 
 returns-2 : tie.Need-returns-2
 returns-2 c =
     let start = c .before .before .before .before .before .before in
-    aiff-refused (start .args .wave .now) (start .args .aiff .now) (c .before .number .given .0 .0) (cc)
+    aiff-refused (start .args .wave .now) (start .args .aiff .now) (c .before .number .given .0 .0) (sym (c .before .before .before .sound-in .ensures) ∙ c .before .number .given .1)
 
 pub wave-to-aiff-spec : {M : Type 1} → statement M
 wave-to-aiff-spec =

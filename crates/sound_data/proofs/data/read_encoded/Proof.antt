@@ -2,7 +2,7 @@
 use Prim.Native.Nat.{_/_}
 use lib.ListN.{length}
 use Rattle.pcm.specs.Sample.{width}
-use Rattle.sound_data.proofs.laws.Frames.{two-channels, mono-room, stereo-room}
+use Rattle.sound_data.proofs.laws.Frames.{two-channels, mono-room, stereo-room, sides-read}
 use borrow.Author.Needs.{needs}
 use Rattle.sound_data.proofs.data.read_encoded.Statement.{statement}
 use Rattle.sound_data.proofs.data.read_encoded.Tie as tie
@@ -21,7 +21,9 @@ same-length : tie.Need-same-length
 same-length c = search needs
 
 returns : tie.Need-returns
-returns c = cc
+returns c =
+    let a = c .before .before .before .before .before .before .before .args in
+    sides-read (a .order) (a .bytes .now) (a .start) (length (a .samples .now) / 2) (a .encoding) (search needs) (c .before .before .read-mono .ensures)
 
 same-length-2 : tie.Need-same-length-2
 same-length-2 c = search needs
@@ -29,7 +31,7 @@ same-length-2 c = search needs
 returns-2 : tie.Need-returns-2
 returns-2 c =
     let start = c .before .before .before .before .before .before .before in
-    cc (two-channels (start .args .channels) (start .pre .0) (search needs))
+    sides-read (start .args .order) (start .args .bytes .now) (start .args .start) (length (start .args .samples .now) / 2) (start .args .encoding) (two-channels (start .args .channels) (start .pre .0) (search needs)) (c .before .before .read-stereo .ensures)
 
 pub read-encoded-spec : {M : Type 1} → statement M
 read-encoded-spec =

@@ -1,7 +1,7 @@
 -- `read_samples` meets its contract. Assumes nothing.
 use Prim.Native.Nat.{_/_, _*_}
 use lib.ListN.{length}
-use Rattle.sound_data.proofs.laws.Frames.{known-room}
+use Rattle.sound_data.proofs.laws.Frames.{known-room, known-read}
 use borrow.Author.Needs.{needs}
 use Rattle.sound_data.proofs.data.read_samples.Statement.{statement}
 use Rattle.sound_data.proofs.data.read_samples.Tie as tie
@@ -26,13 +26,17 @@ same-length : tie.Need-same-length
 same-length c = search needs
 
 returns : tie.Need-returns
-returns c = cc
+returns c =
+    let a = c .before .before .before .before .before .before .before .before .args in
+    known-read (a .order) (a .bytes .now) (a .start) (length (a .samples .now) / 2) (a .channels) (c .before .before .before .before .enum-told .given .1) (c .before .before .read-encoded .ensures)
 
 same-length-2 : tie.Need-same-length-2
 same-length-2 c = search needs
 
 returns-2 : tie.Need-returns-2
-returns-2 c = cc
+returns-2 c =
+    let a = c .before .before .before .before .before .before .before .before .args in
+    known-read (a .order) (a .bytes .now) (a .start) (length (a .samples .now) / 2) (a .channels) (c .before .before .before .before .enum-told2 .given .1) (c .before .before .read-encoded2 .ensures)
 
 pub read-samples-spec : {M : Type 1} → statement M
 read-samples-spec =

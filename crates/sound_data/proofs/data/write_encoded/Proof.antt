@@ -3,7 +3,7 @@ use Prim.Native.Nat.{_/_}
 use lib.ListN.{length}
 use Rattle.pcm.specs.Sample.{width}
 use Rattle.sound_data.proofs.laws.Frames.{two-channels, mono-room, stereo-room}
-use Rattle.sound_data.proofs.laws.Written.{left-steps, all-steps, mono-data, stereo-data}
+use Rattle.sound_data.proofs.laws.Written.{left-steps, all-steps, mono-data, stereo-data, sides-written}
 use borrow.Author.Needs.{needs}
 use Rattle.sound_data.proofs.data.write_encoded.Statement.{statement}
 use Rattle.sound_data.proofs.data.write_encoded.Tie as tie
@@ -24,7 +24,7 @@ same-length c = search needs
 returns : tie.Need-returns
 returns c =
     let start = c .before .before .before .before .before .before .before in
-    cc (mono-data (start .args .encoding) (start .args .order) (start .args .samples .now))
+    sides-written (start .args .order) (start .args .samples .now) (start .args .start) (start .args .bytes .now) (start .args .encoding) (search needs) (mono-data (start .args .encoding) (start .args .order) (start .args .samples .now)) (c .before .before .write-values .ensures)
 
 same-length-2 : tie.Need-same-length-2
 same-length-2 c = search needs
@@ -32,7 +32,7 @@ same-length-2 c = search needs
 returns-2 : tie.Need-returns-2
 returns-2 c =
     let start = c .before .before .before .before .before .before .before in
-    cc (two-channels (start .args .channels) (start .pre .1 .0) (search needs), stereo-data (start .args .encoding) (start .args .order) (start .args .samples .now) (start .pre .1 .1 .0))
+    sides-written (start .args .order) (start .args .samples .now) (start .args .start) (start .args .bytes .now) (start .args .encoding) (two-channels (start .args .channels) (start .pre .1 .0) (search needs)) (stereo-data (start .args .encoding) (start .args .order) (start .args .samples .now) (start .pre .1 .1 .0)) (c .before .before .write-values2 .ensures)
 
 pub write-encoded-spec : {M : Type 1} → statement M
 write-encoded-spec =

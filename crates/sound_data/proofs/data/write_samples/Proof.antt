@@ -2,6 +2,7 @@
 use Prim.Native.Nat.{_/_, _*_}
 use lib.ListN.{length}
 use Rattle.sound_data.proofs.laws.Frames.{known-room}
+use Rattle.sound_data.proofs.laws.Written.{known-written}
 use borrow.Author.Needs.{needs}
 use Rattle.sound_data.proofs.data.write_samples.Statement.{statement}
 use Rattle.sound_data.proofs.data.write_samples.Tie as tie
@@ -26,13 +27,17 @@ same-length : tie.Need-same-length
 same-length c = search needs
 
 returns : tie.Need-returns
-returns c = cc
+returns c =
+    let a = c .before .before .before .before .before .before .before .before .args in
+    known-written (a .order) (a .samples .now) (a .start) (a .bytes .now) (a .channels) (c .before .before .before .before .enum-told .given .1) (c .before .before .write-encoded .ensures)
 
 same-length-2 : tie.Need-same-length-2
 same-length-2 c = search needs
 
 returns-2 : tie.Need-returns-2
-returns-2 c = cc
+returns-2 c =
+    let a = c .before .before .before .before .before .before .before .before .args in
+    known-written (a .order) (a .samples .now) (a .start) (a .bytes .now) (a .channels) (c .before .before .before .before .enum-told2 .given .1) (c .before .before .write-encoded2 .ensures)
 
 pub write-samples-spec : {M : Type 1} → statement M
 write-samples-spec =

@@ -1,5 +1,5 @@
 -- `write` meets its contract. Assumes nothing.
-use mathlib.Core.Path.{_∙_}
+use mathlib.Core.Path.{sym, _∙_}
 use Rattle.wave_writer.proofs.laws.Write.{write-by, write-other}
 use borrow.Author.Needs.{needs}
 use Rattle.wave_writer.proofs.file.write.Statement.{statement}
@@ -26,12 +26,12 @@ same-length c = search needs
 returns : tie.Need-returns
 returns c =
     let start = c .before .before .before .before .before .before .before .before .before .before in
-    c .before .before .write-known .ensures ∙ write-by (start .args .rate) (start .args .channels) (start .args .bits) (start .args .samples .now) (start .args .file .now) (c .before .before .before .before .before .encoding .given .0 .0) (cc)
+    write-by (start .args .rate) (start .args .channels) (start .args .bits) (start .args .samples .now) (start .args .file .now) (c .before .before .write-known .ensures) (sym (c .before .before .before .before .before .before .before .kind-of .ensures) ∙ c .before .before .before .before .before .encoding .given .1)
 
 returns-2 : tie.Need-returns-2
 returns-2 c =
     let start = c .before .before .before .before .before .before in
-    write-other (start .args .rate) (start .args .channels) (start .args .bits) (start .args .samples .now) (start .args .file .now) (cc) (cc)
+    write-other (start .args .rate) (start .args .channels) (start .args .bits) (start .args .samples .now) (start .args .file .now) (c .other-kind .ensures) (sym (c .before .before .before .kind-of .ensures) ∙ c .before .enum-told .given .1)
 
 pub write-spec : {M : Type 1} → statement M
 write-spec =

@@ -1,8 +1,6 @@
 -- `write_known` meets its contract. Assumes nothing.
-use mathlib.Core.Path.{sym, ap, _∙_}
-use Prim.Native.Nat.{ℕ}
-use Rattle.wave_writer.specs.Write.{fileOf, writing, answered}
-use Rattle.wave_writer.proofs.laws.Write.{answer-refused, answer-written, known-is}
+use mathlib.Core.Path.{sym, _∙_}
+use Rattle.wave_writer.proofs.laws.Write.{known-refused, known-written}
 use borrow.Author.Needs.{needs}
 use Rattle.wave_writer.proofs.file.write_known.Statement.{statement}
 use Rattle.wave_writer.proofs.file.write_known.Tie as tie
@@ -12,10 +10,8 @@ asked-requires c κs = search needs
 
 returns : tie.Need-returns
 returns c =
-    let start = c .before .before .before .before in
-    answer-refused (fileOf (start .args .rate) (start .args .channels) (start .args .encoding) (start .args .samples .now)) (start .args .file .now) (c .before .asked .result) (search needs)
-    ∙ ap (λ (n : ℕ). answered n (fileOf (start .args .rate) (start .args .channels) (start .args .encoding) (start .args .samples .now)) (start .args .file .now)) (c .before .asked .ensures)
-    ∙ known-is (start .args .rate) (start .args .channels) (start .args .encoding) (start .args .samples .now) (start .args .file .now)
+    let a = c .before .before .before .before .args in
+    known-refused (a .rate) (a .channels) (a .encoding) (a .samples .now) (a .file .now) (search needs) (c .before .asked .ensures)
 
 write-file-requires : tie.Need-write-file-requires
 write-file-requires c κs = sym (c .before .before .asked .ensures) ∙ search needs
@@ -25,11 +21,8 @@ same-length c = search needs
 
 returns-2 : tie.Need-returns-2
 returns-2 c =
-    let start = c .before .before .before .before .before .before .before .before in
-    ap (writing 0) (c .before .before .write-file .ensures)
-    ∙ answer-written (fileOf (start .args .rate) (start .args .channels) (start .args .encoding) (start .args .samples .now)) (start .args .file .now) (c .before .before .before .before .before .asked .result) (search needs)
-    ∙ ap (λ (n : ℕ). answered n (fileOf (start .args .rate) (start .args .channels) (start .args .encoding) (start .args .samples .now)) (start .args .file .now)) (c .before .before .before .before .before .asked .ensures)
-    ∙ known-is (start .args .rate) (start .args .channels) (start .args .encoding) (start .args .samples .now) (start .args .file .now)
+    let a = c .before .before .before .before .before .before .before .before .args in
+    known-written (a .rate) (a .channels) (a .encoding) (a .samples .now) (a .file .now) (search needs) (c .before .before .before .before .before .asked .ensures) (c .before .before .write-file .ensures)
 
 pub write-known-spec : {M : Type 1} → statement M
 write-known-spec =

@@ -28,7 +28,7 @@ returns : tie.Need-returns
 unfolding formatChunk identifier lettersAfter
 returns c =
     let start = c .before .before .before .before .before .before .before .before .before .before .before .before .before .before .before .before .before .before in
-    start-put (start .args .file .now) (start .pre) (start .args .channels) (start .args .encoding) (c .before .before .before .before .before .before .before .before .before .before .before .before .before .before .before .put-number4 .ensures) (c .before .before .before .before .before .before .before .before .before .before .before .put-number42 .ensures) (cc) (c .before .before .put-number22 .ensures)
+    start-put (start .args .file .now) (start .pre) (start .args .channels) (start .args .encoding) (c .before .before .before .before .before .before .before .tag-of .ensures) (c .before .before .before .before .before .before .before .before .before .before .before .before .before .before .before .put-number4 .ensures) (c .before .before .before .before .before .before .before .before .before .before .before .put-number42 .ensures) (c .before .before .before .before .before .before .put-number2 .ensures) (c .before .before .put-number22 .ensures)
 
 pub put-format-start-spec : {M : Type 1} → statement M
 put-format-start-spec =
