@@ -1,4 +1,6 @@
 // The month program's meaning: its standard input, the names of its files, and what it prints.
+#![tactic(auto)]
+
 mod lines;
 mod print;
 mod report;

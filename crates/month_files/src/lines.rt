@@ -11,7 +11,7 @@ const LINE_FEED: u8 = 10;
 pub const HEAD: usize = 2 * MOST_MIXES + 1;
 
 // The line feeds of some bytes, counted up to one more than there may be mixes, and whether bytes stand behind the last.
-#[derive(Drop)]
+#[derive(Clone, Copy)]
 pub struct Lines {
     pub feeds: usize,
     pub pending: bool,

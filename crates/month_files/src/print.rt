@@ -1,5 +1,5 @@
 // What the program prints, and the names of its files, put into a buffer from a place on. Each function answers the place after it.
-ghost use Rattle.std.specs.Prelude.{◌≡◌, ◌+◌, ◌*◌, ◌≤◌, length, take};
+ghost use Rattle.std.specs.Prelude.{◌≡◌, ◌+◌, ◌*◌, ◌≤◌, length, take, IsUtf8};
 ghost use Rattle.laws.specs.Pieces.{begun, put_at};
 ghost use Rattle.month_files.specs.Text.{number_bytes, text_bytes, three_numbers, printed_totals, printed_reading, name_of};
 
@@ -53,6 +53,7 @@ pub fn put_reading(text: &mut [u8; TEXT], reading: Reading) -> usize
 pub fn mix_name(name: &mut [u8; NAME], mix: u64) -> usize
     ensures written { (result ≡ length (name_of mix)) × (name.new ≡ begun (name_of mix) name.old) }
     ensures within { (result ≤ length name.new) × (result ≡ length (take result name.new)) }
+    ensures utf8 { IsUtf8 (take result name.new) }
 {
     let start = put_text(name, 0, b"mix");
     let end = put_decimal(name, start, STEPS_64, mix);

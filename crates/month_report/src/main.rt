@@ -1,15 +1,21 @@
 // Reads standard input and the mixes, and prints the month's totals or the refusal. What is printed is said in `month_files`
 // (`month_text`); here it is only read and written.
+#![tactic(auto)]
+
 ghost use Rattle.std.specs.Prelude.{◌≡◌, true, ◌+◌, ◌*◌, ◌≤◌, ◌<◌, length, take};
 ghost use Rattle.month.specs.Month.{most_mixes};
 ghost use Rattle.month_reader.specs.Reading.{WithBytes, Reached};
 ghost use Rattle.month_files.specs.Lines.{lines_from, formed, channels_of, head_bytes, lines_number};
 ghost use Rattle.month_files.specs.Read.{MoreLines, AllLines, Further, Ended, TextOfRead};
 
-use libc::{STDERR_FILENO, STDIN_FILENO, STDOUT_FILENO};
 use month::MOST_SAMPLES;
 use month_files::{HEAD, Lines, NAME, TEXT};
 use month_reader::Stream;
+use std::env::FillError;
+use std::fs::File;
+use std::io;
+use std::io::{IsTerminal, Read};
+use std::rt::{Env, Files};
 
 // Bytes of one read.
 const PIECE: usize = 65536;
@@ -18,13 +24,13 @@ const PIECE: usize = 65536;
 const MOST_READS: u64 = 4 * (MOST_SAMPLES + 1);
 
 // What is kept after one read, and how many bytes it gave.
-#[derive(Drop)]
+#[derive(Clone, Copy)]
 pub struct LinesStep {
     pub lines: Lines,
     pub count: usize,
 }
 
-#[derive(Drop)]
+#[derive(Clone, Copy)]
 pub struct MixStep {
     pub stream: Stream,
     pub count: usize,
@@ -32,10 +38,10 @@ pub struct MixStep {
 
 // ---- standard input
 
-fn read_lines(buffer: &mut [u8], lines: Lines) -> LinesStep
+fn read_lines<I: Read>(input: &mut I, buffer: &mut [u8], lines: Lines) -> LinesStep
     ensures { result.lines ≡ lines_from lines (take result.count buffer.new) }
 {
-    let n = io::read_full(STDIN_FILENO, buffer);
+    let n = first_bytes::read_full(input, buffer);
     let all = month_files::with_lines(lines, &buffer[..n]);
     LinesStep {
         lines: all,
@@ -44,13 +50,13 @@ fn read_lines(buffer: &mut [u8], lines: Lines) -> LinesStep
 }
 
 // The rest of standard input. A loop counts its turns down, from a number that no run uses up.
-fn rest_lines(buffer: &mut [u8], lines: Lines) -> Lines
+fn rest_lines<I: Read>(input: &mut I, buffer: &mut [u8], lines: Lines) -> Lines
     ensures { MoreLines lines result }
 {
     let mut all = lines;
     let mut left = u64::MAX;
     while left > 0 {
-        let step = read_lines(buffer, all);
+        let step = read_lines(input, buffer, all);
         all = step.lines;
         if step.count == 0 {
             return all;
@@ -61,7 +67,7 @@ fn rest_lines(buffer: &mut [u8], lines: Lines) -> Lines
 }
 
 // The lines of all of standard input, whose first bytes were read; there are more where those are as many as fit.
-fn all_lines(head: &[u8], buffer: &mut [u8]) -> Lines
+fn all_lines<I: Read>(input: &mut I, head: &[u8], buffer: &mut [u8]) -> Lines
     requires { length head.now ≤ head_bytes }
     ensures { AllLines head.now result }
 {
@@ -69,17 +75,19 @@ fn all_lines(head: &[u8], buffer: &mut [u8]) -> Lines
     if head.len() < HEAD {
         return first;
     }
-    rest_lines(buffer, first)
+    rest_lines(input, buffer, first)
 }
 
 // ---- mixes
 
-fn read_piece(fd: i32, buffer: &mut [u8], stream: Stream) -> MixStep
+fn read_piece<F: Read>(file: &mut F, buffer: &mut [u8], stream: Stream) -> MixStep
     requires { Reached stream }
     ensures { WithBytes stream (take result.count buffer.new) result.stream }
 {
-    let got = libc::read(fd, buffer);
-    let n = io::count(got, buffer);
+    let n = match file.read(buffer) {
+        Ok(n) => n,
+        Err(_) => 0,
+    };
     let next = month_reader::with_piece(stream, &buffer[..n]);
     MixStep {
         stream: next,
@@ -96,14 +104,14 @@ fn is_over(stream: Stream, count: usize) -> bool {
     count == 0
 }
 
-fn read_pieces(fd: i32, buffer: &mut [u8], stream: Stream) -> Stream
+fn read_pieces<F: Read>(file: &mut F, buffer: &mut [u8], stream: Stream) -> Stream
     requires { Reached stream }
     ensures { Further stream result }
 {
     let mut all = stream;
     let mut left = MOST_READS;
     while left > 0 {
-        let step = read_piece(fd, buffer, all);
+        let step = read_piece(file, buffer, all);
         all = step.stream;
         if is_over(all, step.count) {
             return all;
@@ -114,7 +122,7 @@ fn read_pieces(fd: i32, buffer: &mut [u8], stream: Stream) -> Stream
 }
 
 // A file that does not open counts as empty.
-fn read_mix(mix: u64, buffer: &mut [u8], stream: Stream) -> Stream
+fn read_mix<R: Files>(rt: &R, mix: u64, buffer: &mut [u8], stream: Stream) -> Stream
     requires { Reached stream }
     ensures { Further stream result }
 {
@@ -124,37 +132,32 @@ fn read_mix(mix: u64, buffer: &mut [u8], stream: Stream) -> Stream
     }
     let mut name = [0u8; NAME];
     let length = month_files::mix_name(&mut name, mix);
-    let fd = os::open_read(&name[..length]);
-    if fd < 0 {
-        return stream;
+    let path = str::from_utf8(&name[..length]).unwrap();
+    match File::open(rt, path) {
+        Ok(mut file) => read_pieces(&mut file, buffer, stream),
+        Err(_) => stream,
     }
-    let all = read_pieces(fd, buffer, stream);
-    libc::close(fd);
-    all
 }
 
 // Reads mix i, counted from 0, to its end.
-fn read_whole(head: &[u8], i: usize, buffer: &mut [u8], stream: Stream) -> Stream
+fn read_whole<R: Files>(rt: &R, head: &[u8], i: usize, buffer: &mut [u8], stream: Stream) -> Stream
     requires head_holds_line { (formed head.now ≡ true) × (2 * i + 1 < length head.now) }
     requires earlier_mixes_read { (i < most_mixes) × Ended (take i (channels_of head.now)) stream }
     ensures { Ended (take (i + 1) (channels_of head.now)) result }
 {
     let channels = month_files::channels_at(head, i);
-    let read = read_mix(i as u64 + 1, buffer, stream);
+    let read = read_mix(rt, i as u64 + 1, buffer, stream);
     month_reader::with_end(read, channels)
 }
 
-fn show_progress(asked: bool, mix: u64, mixes: u64) {
+fn show_progress<R: Eprint>(rt: &R, asked: bool, mix: u64, mixes: u64) {
     if !asked {
         return;
     }
-    io::print_decimal(STDERR_FILENO, mix);
-    io::write_all(STDERR_FILENO, b" of ");
-    io::print_decimal(STDERR_FILENO, mixes);
-    io::write_all(STDERR_FILENO, b"\n");
+    let _ = eprintln!(rt; "{mix} of {mixes}");
 }
 
-fn read_mixes(head: &[u8], buffer: &mut [u8], asked: bool) -> Stream
+fn read_mixes<R: Files + Eprint>(rt: &R, head: &[u8], buffer: &mut [u8], asked: bool) -> Stream
     requires { (formed head.now ≡ true) × (length head.now ≤ head_bytes) }
     ensures { Ended (channels_of head.now) result }
 {
@@ -162,51 +165,71 @@ fn read_mixes(head: &[u8], buffer: &mut [u8], asked: bool) -> Stream
     let mut all = month_reader::start();
     let mut i = 0;
     while i < mixes {
-        all = read_whole(head, i, buffer, all);
+        all = read_whole(rt, head, i, buffer, all);
         i += 1;
-        show_progress(asked, i as u64, mixes as u64);
+        show_progress(rt, asked, i as u64, mixes as u64);
     }
     all
 }
 
 // Of lines that are refused no mix is read.
-fn read_month(head: &[u8], lines: Lines, buffer: &mut [u8], asked: bool) -> Stream
+fn read_month<R: Files + Eprint>(
+    rt: &R,
+    head: &[u8],
+    lines: Lines,
+    buffer: &mut [u8],
+    asked: bool,
+) -> Stream
     requires { length head.now ≤ head_bytes }
     ensures { lines_number lines head.now ≡ 0 → Ended (channels_of head.now) result }
 {
     if month_files::questions(lines, head) != 0 {
         return month_reader::start();
     }
-    read_mixes(head, buffer, asked)
+    read_mixes(rt, head, buffer, asked)
 }
 
 // ---- the report
 
 // Puts the text of what it reads, and answers how many bytes it has.
-fn report(head: &mut [u8], buffer: &mut [u8], text: &mut [u8; TEXT], asked: bool) -> usize
+fn report<R: Files + Eprint, I: Read>(
+    rt: &R,
+    input: &mut I,
+    head: &mut [u8],
+    buffer: &mut [u8],
+    text: &mut [u8; TEXT],
+    asked: bool,
+) -> usize
     requires { length head.old ≡ head_bytes }
     ensures text { TextOfRead head.new text.old result text.new }
     ensures within { (result ≤ length text.new) × (result ≡ length (take result text.new)) }
 {
-    let n = io::read_full(STDIN_FILENO, head);
-    let lines = all_lines(&head[..n], buffer);
-    let stream = read_month(&head[..n], lines, buffer, asked);
+    let n = first_bytes::read_full(input, head);
+    let lines = all_lines(input, &head[..n], buffer);
+    let stream = read_month(rt, &head[..n], lines, buffer, asked);
     month_files::month_text(&head[..n], lines, stream, text)
 }
 
 // Progress is told where standard error is a terminal, or where the program has an argument.
-fn progress_asked() -> bool {
-    if libc::isatty(STDERR_FILENO) == 1 {
+fn progress_asked<R: Env>(rt: &R, is_terminal: bool) -> bool {
+    if is_terminal {
         return true;
     }
-    os::arg_count() > 1
+    !matches!(rt.arg(1, &mut []), Err(FillError::NotPresent))
 }
 
-fn main() {
+fn main(rt: HostRuntime) -> io::Result<()> {
     let mut head = [0u8; HEAD];
     let mut buffer = [0u8; PIECE];
     let mut text = [0u8; TEXT];
-    let asked = progress_asked();
-    let length = report(&mut head, &mut buffer, &mut text, asked);
-    io::write_all(STDOUT_FILENO, &text[..length]);
+    let asked = progress_asked(&rt, rt.stderr().is_terminal());
+    let length = report(
+        &rt,
+        &mut rt.stdin(),
+        &mut head,
+        &mut buffer,
+        &mut text,
+        asked,
+    );
+    rt.write_all(&text[..length])
 }

@@ -1,4 +1,8 @@
 // The render program: see `render_files`.
-fn main() {
-    render_files::run();
+#![tactic(auto)]
+
+use std::io;
+
+fn main(rt: HostRuntime) -> io::Result<()> {
+    render_files::run(&rt)
 }

@@ -1,6 +1,5 @@
 // The render program, over the bytes of scene.txt, samples.raw and visitor.raw.
 ghost use Rattle.std.specs.Prelude.{◌≡◌, List, ℕ, ◌*◌, ◌/◌, ◌≤◌, length, take};
-ghost use Rattle.io.specs.Counts.{IsPrefixLen};
 ghost use Rattle.recordings.specs.Recordings.{recordings};
 ghost use Rattle.laws.specs.Pieces.{begun};
 ghost use Rattle.scene_file.specs.Grammar.{tables_of};
@@ -153,9 +152,9 @@ pub fn render_read(
     text: &mut [u8; TEXT],
 ) -> usize
     requires buffers_sized { (length scene.now ≡ scene_bytes) × (length samples.now ≡ sample_bytes) × (length visitor.now ≡ sample_bytes) }
-    requires scene_prefix { IsPrefixLen m scene.now }
-    requires samples_prefix { IsPrefixLen n samples.now }
-    requires visitor_prefix { IsPrefixLen v visitor.now }
+    requires scene_prefix { (m ≤ length scene.now) × (m ≡ length (take m scene.now)) }
+    requires samples_prefix { (n ≤ length samples.now) × (n ≡ length (take n samples.now)) }
+    requires visitor_prefix { (v ≤ length visitor.now) × (v ≡ length (take v visitor.now)) }
     ensures text { (file raw visiting : List ℕ) → FirstOf file scene.now m → FirstOf raw samples.now n
         → FirstOf visiting visitor.now v → TextOf file raw visiting text.old result text.new }
     ensures within { (result ≤ length text.new) × (result ≡ length (take result text.new)) }

@@ -1,4 +1,6 @@
 // The render program's meaning: what it prints, over the bytes of its three files.
+#![tactic(auto)]
+
 mod files;
 mod print;
 mod program;

@@ -1,5 +1,7 @@
 // The amplitudes of many levels with one table, so that a driver outside can measure the form of
 // `as_amplitude` that the library itself uses.
+#![tactic(auto)]
+
 ghost use Rattle.std.specs.Prelude.{◌≡◌, min};
 ghost use Rattle.test_amplitude_bench.specs.Amplitudes.{amplitudes_over};
 

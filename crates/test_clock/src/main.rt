@@ -1,17 +1,21 @@
 // Runs the lists of vectors of the crate `clock` (docs/VECTORS.md), and says of each list how many
 // answers were checked and how many were wrong.
+#![tactic(auto)]
+
 mod moves;
 mod traces;
 
+use std::io;
+use std::rt::Files;
 use traces::{Step, Trace};
 
-#[derive(Drop)]
+#[derive(Clone, Copy)]
 enum List {
     Clock,
     WhenToStart,
 }
 
-#[derive(Drop)]
+#[derive(Clone, Copy)]
 struct Tally {
     checked: u64,
     wrong: u64,
@@ -44,14 +48,19 @@ fn run_rows(list: List, text: &[u8]) -> Tally {
     Tally { checked, wrong }
 }
 
-fn run_list(list: List, name: &[u8], path: &[u8]) {
+fn run_list<R: Files + Eprint + Print>(
+    rt: &R,
+    list: List,
+    name: &str,
+    path: &str,
+) -> io::Result<()> {
     let mut buffer = test_replay::short_buffer();
-    let n = test_replay::read(path, &mut buffer);
+    let n = test_replay::read(rt, path, &mut buffer);
     let tally = run_rows(list, &buffer[..n]);
-    test_replay::report(name, tally.checked, tally.wrong);
+    test_replay::report(rt, name, tally.checked, tally.wrong)
 }
 
-fn main() {
-    run_list(List::Clock, b"clock", b"clock.txt");
-    run_list(List::WhenToStart, b"when_to_start", b"when_to_start.txt");
+fn main(rt: HostRuntime) -> io::Result<()> {
+    run_list(&rt, List::Clock, "clock", "clock.txt")?;
+    run_list(&rt, List::WhenToStart, "when_to_start", "when_to_start.txt")
 }

@@ -10,7 +10,7 @@ use clock::Clock;
 // An update counts 1,001 ticks at most, which a u64 must hold.
 const LAST_TICK: u64 = 18446744073709550614;
 
-#[derive(Drop)]
+#[derive(Clone, Copy)]
 pub enum Moved {
     To(Clock),
     Refused,

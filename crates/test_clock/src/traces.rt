@@ -6,14 +6,14 @@ use clock::{Clock, ClockSpeed, ClockTime, Clocks, WhenToStart};
 use test_replay::Column;
 use test_trace::ClockRow;
 
-#[derive(Drop)]
+#[derive(Clone, Copy)]
 pub struct Trace {
     pub clock: Clock,
     pub clocks: Clocks,
 }
 
 // A trace after a row: whether it asked something, and whether that was answered wrong.
-#[derive(Drop)]
+#[derive(Clone, Copy)]
 pub struct Step {
     pub trace: Trace,
     pub asked: bool,

@@ -1,21 +1,23 @@
 // Reads cases from standard input and prints what the month program prints for each. A case is three numbers of four bytes, the
 // lowest first: how many bytes a piece has behind its first, the bytes of the lines, the bytes of the files; then the lines, and the
 // files one after another, each behind its length in four bytes. Files that are left out are missing ones.
-ghost use Rattle.std.specs.Prelude.{◌≡◌, true, ◌+◌, ◌*◌, ◌≤◌, ◌<◌, length, take};
+#![tactic(auto)]
+
+ghost use Rattle.std.specs.Prelude.{◌≡◌, true, ◌+◌, ◌*◌, ◌≤◌, ◌<◌, length, take, IfOk};
 ghost use Rattle.month.specs.Month.{most_mixes};
 ghost use Rattle.month_reader.specs.Reading.{WithBytes, Reached};
 ghost use Rattle.month_files.specs.Lines.{formed, channels_of, head_bytes};
 ghost use Rattle.month_files.specs.Read.{Ended};
 
-use libc::{STDIN_FILENO, STDOUT_FILENO};
 use month_files::{HEAD, Lines, TEXT};
 use month_reader::Stream;
+use std::io;
 use test_replay::least;
 
 const HEADER: usize = 12;
 
 // What is kept, and how many bytes of the files were handed over.
-#[derive(Drop)]
+#[derive(Clone, Copy)]
 pub struct Handed {
     pub stream: Stream,
     pub used: usize,
@@ -97,45 +99,46 @@ fn stream_of(head: &[u8], lines: Lines, files: &[u8], piece: usize) -> Stream
     hand_mixes(head, files, piece)
 }
 
-fn print_case(input: &[u8], files: &[u8], piece: usize) {
+fn print_case<R: Print>(rt: &R, input: &[u8], files: &[u8], piece: usize) -> io::Result<()> {
     let n = least(input.len(), HEAD);
     let lines = lines_of(input, piece);
     let stream = stream_of(&input[..n], lines, files, piece);
     let mut text = [0u8; TEXT];
     let length = month_files::month_text(&input[..n], lines, stream, &mut text);
-    io::write_all(STDOUT_FILENO, &text[..length]);
+    rt.write_all(&text[..length])
 }
 
 // Prints the case that the input begins with, and answers how many bytes it has: none where it is no whole case.
-fn answer_case(input: &[u8]) -> usize
-    ensures { result ≤ length input.now }
+fn answer_case<R: Print>(rt: &R, input: &[u8]) -> io::Result<usize>
+    ensures { IfOk result (λ n. n ≤ length input.now) }
 {
     if input.len() < HEADER {
-        return 0;
+        return Ok(0);
     }
     let piece = float_bits::word(input, 0) as usize;
     let middle = HEADER + float_bits::word(input, 4) as usize;
     let end = middle + float_bits::word(input, 8) as usize;
     if input.len() < end {
-        return 0;
+        return Ok(0);
     }
-    print_case(&input[HEADER..middle], &input[middle..end], piece);
-    end
+    print_case(rt, &input[HEADER..middle], &input[middle..end], piece)?;
+    Ok(end)
 }
 
-fn answer_cases(input: &[u8]) {
+fn answer_cases<R: Print>(rt: &R, input: &[u8]) -> io::Result<()> {
     let mut at = 0;
     while at < input.len() {
-        let length = answer_case(&input[at..]);
+        let length = answer_case(rt, &input[at..])?;
         if length == 0 {
-            return;
+            return Ok(());
         }
         at += length;
     }
+    Ok(())
 }
 
-fn main() {
-    let mut buffer = io::large_buffer();
-    let n = io::read_full(STDIN_FILENO, &mut buffer);
-    answer_cases(&buffer[..n]);
+fn main(rt: HostRuntime) -> io::Result<()> {
+    let mut buffer = test_replay::case_buffer();
+    let n = first_bytes::read_full(&mut rt.stdin(), &mut buffer);
+    answer_cases(&rt, &buffer[..n])
 }

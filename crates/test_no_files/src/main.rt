@@ -1,4 +1,8 @@
 // The render program where there is no scene.txt, no samples.raw and no visitor.raw.
-fn main() {
-    render_files::run();
+#![tactic(auto)]
+
+use std::io;
+
+fn main(rt: HostRuntime) -> io::Result<()> {
+    render_files::run(&rt)
 }

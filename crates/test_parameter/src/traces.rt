@@ -6,14 +6,14 @@ use parameter::{Parameter, ParameterUpdate};
 use test_replay::{Column, Column32};
 use test_trace::{ChunkRow, ClockRow, OrderRow};
 
-#[derive(Drop)]
+#[derive(Clone, Copy)]
 pub struct Trace {
     pub parameter: Parameter,
     pub clocks: Clocks,
 }
 
 // A trace after a row: whether it asked something, and whether that was answered wrong.
-#[derive(Drop)]
+#[derive(Clone, Copy)]
 pub struct Step {
     pub trace: Trace,
     pub asked: bool,
@@ -107,7 +107,7 @@ fn set(trace: Trace, columns: &[u8]) -> Step {
     met(with_parameter(trace, parameter))
 }
 
-#[derive(Drop)]
+#[derive(Clone, Copy)]
 enum Updated {
     To(ParameterUpdate),
     Refused,

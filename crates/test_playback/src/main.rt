@@ -1,8 +1,12 @@
 // Runs the list of vectors of the crate `playback` (docs/VECTORS.md), and says how many updates were
 // checked and how many were wrong.
+#![tactic(auto)]
+
 mod traces;
 
-#[derive(Drop)]
+use std::io;
+
+#[derive(Clone, Copy)]
 struct Tally {
     checked: u64,
     wrong: u64,
@@ -28,9 +32,9 @@ fn run_rows(text: &[u8]) -> Tally {
     Tally { checked, wrong }
 }
 
-fn main() {
+fn main(rt: HostRuntime) -> io::Result<()> {
     let mut buffer = test_replay::short_buffer();
-    let n = test_replay::read(b"playback.txt", &mut buffer);
+    let n = test_replay::read(&rt, "playback.txt", &mut buffer);
     let tally = run_rows(&buffer[..n]);
-    test_replay::report(b"playback", tally.checked, tally.wrong);
+    test_replay::report(&rt, "playback", tally.checked, tally.wrong)
 }

@@ -7,14 +7,14 @@ use test_replay::Column;
 use test_trace::{ChunkRow, ClockRow, OrderRow};
 use tween::StartTime;
 
-#[derive(Drop)]
+#[derive(Clone, Copy)]
 pub struct Trace {
     pub manager: PlaybackStateManager,
     pub clocks: Clocks,
 }
 
 // A trace after a row: whether it asked something, and whether that was answered wrong.
-#[derive(Drop)]
+#[derive(Clone, Copy)]
 pub struct Step {
     pub trace: Trace,
     pub asked: bool,
@@ -117,7 +117,7 @@ fn state_number(state: PlaybackState) -> u64 {
     }
 }
 
-#[derive(Drop)]
+#[derive(Clone, Copy)]
 enum Updated {
     To(PlaybackUpdate),
     Refused,

@@ -5,7 +5,7 @@ ghost use Rattle.std.specs.Prelude.{◌≡◌, ◌≤◌, length, take};
 
 // Where the files of a case lie: the scene from `start` to `samples`, the house's samples from there to `visitor`, the visitor's
 // from there to `end`. All are 0 of no case.
-#[derive(Drop)]
+#[derive(Clone, Copy)]
 pub struct Case {
     pub start: usize,
     pub samples: usize,

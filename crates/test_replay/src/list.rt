@@ -1,8 +1,8 @@
 // A list's file, and what is said of it.
-ghost use Rattle.std.specs.Prelude.{◌≡◌, length};
-ghost use Rattle.io.specs.Counts.{IsPrefixLen};
+ghost use Rattle.std.specs.Prelude.{◌≡◌, ◌≤◌, length, take};
 
-use libc::STDOUT_FILENO;
+use std::io;
+use std::rt::Files;
 
 // Room for a list. The `ensures` gives only the length, which lending the array as a slice needs. The
 // prover's time goes by the length, so a program takes no more than it needs.
@@ -18,26 +18,28 @@ pub fn buffer() -> [u8; 524288]
     [0; 524288]
 }
 
+// Room for the cases of a program that has smaller ones.
+pub fn case_buffer() -> [u8; 65536]
+    ensures { 65536 ≡ length result }
+{
+    [0; 65536]
+}
+
 // Reads a list to the start of the buffer, and answers how many bytes it has. A file that does not
 // open has none, and one that is too long is cut: either shows in the report's count.
-pub fn read(path: &[u8], buffer: &mut [u8]) -> usize
-    ensures { IsPrefixLen result buffer.new }
+pub fn read<R: Files + Eprint>(rt: &R, path: &str, buffer: &mut [u8]) -> usize
+    ensures { (result ≤ length buffer.new) × (result ≡ length (take result buffer.new)) }
 {
-    let fd = os::open_read(path);
-    if fd < 0 {
-        os::fail(path);
+    match first_bytes::read_file(rt, path, buffer) {
+        Ok(n) => n,
+        Err(error) => {
+            let _ = eprintln!(rt; "{path}: {error}");
+            0
+        }
     }
-    let n = io::read_full(fd, buffer);
-    libc::close(fd);
-    n
 }
 
 // One line: `NAME CHECKED checked WRONG wrong`.
-pub fn report(name: &[u8], checked: u64, wrong: u64) {
-    io::write_all(STDOUT_FILENO, name);
-    io::write_all(STDOUT_FILENO, b" ");
-    io::print_decimal(STDOUT_FILENO, checked);
-    io::write_all(STDOUT_FILENO, b" checked ");
-    io::print_decimal(STDOUT_FILENO, wrong);
-    io::write_all(STDOUT_FILENO, b" wrong\n");
+pub fn report<R: Print>(rt: &R, name: &str, checked: u64, wrong: u64) -> io::Result<()> {
+    println!(rt; "{name} {checked} checked {wrong} wrong")
 }

@@ -6,13 +6,13 @@ ghost use Rattle.test_replay.specs.Text.{line_length, is_row, digit_of, hex_of, 
 const LINE_FEED: u8 = 10;
 
 // The number in a column, or that the column holds none that fits.
-#[derive(Drop)]
+#[derive(Clone, Copy)]
 pub enum Column {
     Number(u64),
     Malformed,
 }
 
-#[derive(Drop)]
+#[derive(Clone, Copy)]
 pub enum Column32 {
     Number(u32),
     Malformed,

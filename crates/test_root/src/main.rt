@@ -1,8 +1,11 @@
 // Runs the list of vectors of the crate `root` (docs/VECTORS.md), and says how many rows were checked
 // and how many were wrong.
+#![tactic(auto)]
+
+use std::io;
 use test_replay::Column32;
 
-#[derive(Drop)]
+#[derive(Clone, Copy)]
 struct Tally {
     checked: u64,
     wrong: u64,
@@ -49,9 +52,9 @@ fn run_rows(text: &[u8]) -> Tally {
     Tally { checked, wrong }
 }
 
-fn main() {
+fn main(rt: HostRuntime) -> io::Result<()> {
     let mut buffer = test_replay::short_buffer();
-    let n = test_replay::read(b"root.txt", &mut buffer);
+    let n = test_replay::read(&rt, "root.txt", &mut buffer);
     let tally = run_rows(&buffer[..n]);
-    test_replay::report(b"root", tally.checked, tally.wrong);
+    test_replay::report(&rt, "root", tally.checked, tally.wrong)
 }

@@ -1,4 +1,6 @@
 // The root for a driver outside, which compares it at every f32 and measures what it costs.
+#![tactic(auto)]
+
 ghost use Rattle.std.specs.Prelude.{◌≡◌};
 ghost use Rattle.test_root_bench.specs.RootOver.{root_number, root_over};
 

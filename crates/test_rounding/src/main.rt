@@ -1,15 +1,19 @@
 // Runs the lists of vectors of the crate `rounding` (docs/VECTORS.md), and says of each list how many
 // rows were checked and how many were wrong.
+#![tactic(auto)]
+
+use std::io;
+use std::rt::Files;
 use test_replay::{Column, Column32};
 
-#[derive(Drop)]
+#[derive(Clone, Copy)]
 enum List {
     Rounding,
     Nanoseconds,
     Seconds,
 }
 
-#[derive(Drop)]
+#[derive(Clone, Copy)]
 struct Tally {
     checked: u64,
     wrong: u64,
@@ -94,15 +98,20 @@ fn run_rows(list: List, text: &[u8]) -> Tally {
     Tally { checked, wrong }
 }
 
-fn run_list(list: List, name: &[u8], path: &[u8]) {
+fn run_list<R: Files + Eprint + Print>(
+    rt: &R,
+    list: List,
+    name: &str,
+    path: &str,
+) -> io::Result<()> {
     let mut buffer = test_replay::buffer();
-    let n = test_replay::read(path, &mut buffer);
+    let n = test_replay::read(rt, path, &mut buffer);
     let tally = run_rows(list, &buffer[..n]);
-    test_replay::report(name, tally.checked, tally.wrong);
+    test_replay::report(rt, name, tally.checked, tally.wrong)
 }
 
-fn main() {
-    run_list(List::Rounding, b"rounding", b"rounding.txt");
-    run_list(List::Nanoseconds, b"nanoseconds", b"nanoseconds.txt");
-    run_list(List::Seconds, b"seconds", b"seconds.txt");
+fn main(rt: HostRuntime) -> io::Result<()> {
+    run_list(&rt, List::Rounding, "rounding", "rounding.txt")?;
+    run_list(&rt, List::Nanoseconds, "nanoseconds", "nanoseconds.txt")?;
+    run_list(&rt, List::Seconds, "seconds", "seconds.txt")
 }

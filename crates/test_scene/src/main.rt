@@ -1,7 +1,9 @@
 // Reads cases from standard input (`test_replay`, cases.rt) and prints the number of each.
-ghost use Rattle.std.specs.Prelude.{◌≤◌, length};
+#![tactic(auto)]
 
-use libc::{STDIN_FILENO, STDOUT_FILENO};
+ghost use Rattle.std.specs.Prelude.{◌≤◌, length, IfOk};
+
+use std::io;
 
 // The most samples of a case.
 const SAMPLES: usize = 16384;
@@ -17,8 +19,8 @@ fn number_of(file: &[u8], house: &[u8], visiting: &[u8], output: usize) -> u32 {
 
 // Prints the number of the case that the input begins with, and answers how many bytes it has: none
 // where it is no whole case.
-fn answer_case(input: &[u8]) -> usize
-    ensures { result ≤ length input.now }
+fn answer_case<R: Print>(rt: &R, input: &[u8]) -> io::Result<usize>
+    ensures { IfOk result (λ n. n ≤ length input.now) }
 {
     let case = test_replay::first_case(input);
     let start = case.start;
@@ -26,7 +28,7 @@ fn answer_case(input: &[u8]) -> usize
     let visitor = case.visitor;
     let end = case.end;
     if end == 0 {
-        return 0;
+        return Ok(0);
     }
     let number = number_of(
         &input[start..samples],
@@ -34,24 +36,24 @@ fn answer_case(input: &[u8]) -> usize
         &input[visitor..end],
         case.output,
     );
-    io::print_decimal(STDOUT_FILENO, number as u64);
-    io::write_all(STDOUT_FILENO, b"\n");
-    end
+    println!(rt; "{number}")?;
+    Ok(end)
 }
 
-fn answer_cases(input: &[u8]) {
+fn answer_cases<R: Print>(rt: &R, input: &[u8]) -> io::Result<()> {
     let mut at = 0;
     while at < input.len() {
-        let length = answer_case(&input[at..]);
+        let length = answer_case(rt, &input[at..])?;
         if length == 0 {
-            return;
+            return Ok(());
         }
         at += length;
     }
+    Ok(())
 }
 
-fn main() {
+fn main(rt: HostRuntime) -> io::Result<()> {
     let mut buffer = test_replay::buffer();
-    let n = io::read_full(STDIN_FILENO, &mut buffer);
-    answer_cases(&buffer[..n]);
+    let n = first_bytes::read_full(&mut rt.stdin(), &mut buffer);
+    answer_cases(&rt, &buffer[..n])
 }

@@ -1,14 +1,17 @@
 // Runs the list of vectors of the crate `spatial` (docs/VECTORS.md), and says how many rows were
 // checked and how many were wrong.
+#![tactic(auto)]
+
 ghost use Rattle.std.specs.Prelude.{◌≡◌, true, ◌+◌, ◌≤◌, length};
 ghost use Rattle.std.specs.Float.{binary32};
 ghost use Rattle.laws.specs.Interpolate.{InRange};
 ghost use Rattle.spatial.specs.Spatial.{PositionIn, DistancesIn};
 
 use spatial::{Distances, Position};
+use std::io;
 use test_replay::Column32;
 
-#[derive(Drop)]
+#[derive(Clone, Copy)]
 struct Tally {
     checked: u64,
     wrong: u64,
@@ -128,9 +131,9 @@ fn run_rows(text: &[u8]) -> Tally {
     Tally { checked, wrong }
 }
 
-fn main() {
+fn main(rt: HostRuntime) -> io::Result<()> {
     let mut buffer = test_replay::short_buffer();
-    let n = test_replay::read(b"attenuation.txt", &mut buffer);
+    let n = test_replay::read(&rt, "attenuation.txt", &mut buffer);
     let tally = run_rows(&buffer[..n]);
-    test_replay::report(b"attenuation", tally.checked, tally.wrong);
+    test_replay::report(&rt, "attenuation", tally.checked, tally.wrong)
 }

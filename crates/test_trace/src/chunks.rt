@@ -7,14 +7,14 @@ use decibels::Decibels;
 use test_replay::{Column, Column32};
 
 // How many clocks are there, the seconds, and where in the chunk the level between is read.
-#[derive(Drop)]
+#[derive(Clone, Copy)]
 pub struct Chunk {
     pub count: usize,
     pub dt: f64,
     pub amount: f64,
 }
 
-#[derive(Drop)]
+#[derive(Clone, Copy)]
 pub enum ChunkRow {
     Chunk(Chunk),
     Malformed,

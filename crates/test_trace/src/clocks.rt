@@ -3,13 +3,13 @@ use clock::{Clock, ClockSpeed, ClockState, Clocks};
 use test_replay::Column;
 
 // A clock, and its place among eight.
-#[derive(Drop)]
+#[derive(Clone, Copy)]
 pub struct PlacedClock {
     pub place: usize,
     pub clock: Clock,
 }
 
-#[derive(Drop)]
+#[derive(Clone, Copy)]
 pub enum ClockRow {
     Clock(PlacedClock),
     Malformed,

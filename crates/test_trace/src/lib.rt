@@ -1,5 +1,7 @@
 // What the rows of several lists share: a clock as an update finds it, an order's start and tween, an
 // update's chunk and the levels after it.
+#![tactic(auto)]
+
 mod chunks;
 mod clocks;
 mod orders;

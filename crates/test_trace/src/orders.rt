@@ -4,14 +4,14 @@ use test_replay::{Column, Column32};
 use tween::{Easing, StartTime, Tween};
 
 // The tween waits for the start. A resume waits by itself, and takes the tween at once.
-#[derive(Drop)]
+#[derive(Clone, Copy)]
 pub struct Order {
     pub start: StartTime,
     pub duration: u32,
     pub easing: Easing,
 }
 
-#[derive(Drop)]
+#[derive(Clone, Copy)]
 pub enum OrderRow {
     Order(Order),
     Malformed,
@@ -76,7 +76,7 @@ fn read_start(columns: &[u8]) -> StartRow {
     ))
 }
 
-#[derive(Drop)]
+#[derive(Clone, Copy)]
 enum StartRow {
     Start(StartTime),
     Malformed,

@@ -1,15 +1,19 @@
 // Runs the lists of vectors of the crate `tween` (docs/VECTORS.md), and says of each list how many
 // rows were checked and how many were wrong.
+#![tactic(auto)]
+
 use decibels::Decibels;
+use std::io;
+use std::rt::Files;
 use test_replay::{Column, Column32};
 
-#[derive(Drop)]
+#[derive(Clone, Copy)]
 enum List {
     Easing,
     Interpolation,
 }
 
-#[derive(Drop)]
+#[derive(Clone, Copy)]
 struct Tally {
     checked: u64,
     wrong: u64,
@@ -87,14 +91,24 @@ fn run_rows(list: List, text: &[u8]) -> Tally {
     Tally { checked, wrong }
 }
 
-fn run_list(list: List, name: &[u8], path: &[u8]) {
+fn run_list<R: Files + Eprint + Print>(
+    rt: &R,
+    list: List,
+    name: &str,
+    path: &str,
+) -> io::Result<()> {
     let mut buffer = test_replay::short_buffer();
-    let n = test_replay::read(path, &mut buffer);
+    let n = test_replay::read(rt, path, &mut buffer);
     let tally = run_rows(list, &buffer[..n]);
-    test_replay::report(name, tally.checked, tally.wrong);
+    test_replay::report(rt, name, tally.checked, tally.wrong)
 }
 
-fn main() {
-    run_list(List::Easing, b"easing", b"easing.txt");
-    run_list(List::Interpolation, b"interpolation", b"interpolation.txt");
+fn main(rt: HostRuntime) -> io::Result<()> {
+    run_list(&rt, List::Easing, "easing", "easing.txt")?;
+    run_list(
+        &rt,
+        List::Interpolation,
+        "interpolation",
+        "interpolation.txt",
+    )
 }
