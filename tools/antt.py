@@ -26,8 +26,8 @@ def words(text):
 
 
 def place(path):
-    """(crate, specs or proofs, module) of a path that a `use` line names, or the path itself where it is a library's."""
-    found = re.match(r"^Rattle·(\w+?)(?:·(?:specs|proofs))?\.(specs|proofs)((?:\.[^\s]+)?)$", path)
+    """(crate, specs or proofs, module) of a path that a `use` line names, or the path itself where it is std's or a toolchain's."""
+    found = re.match(r"^Rattle\.(?!std\.)(\w+)\.(specs|proofs)((?:\.[^\s]+)?)$", path)
     return (found[1], found[2], tuple(x for x in found[3].split(".") if x)) if found else path
 
 
@@ -142,7 +142,7 @@ class Graph:
         """What the words of a text mean."""
         out = {}
         for name, key in means.items():
-            parts = [part for part in name.split("_") if part] if "_" in name and not name.startswith("«") else [name]
+            parts = [part for part in name.split("◌") if part] if "◌" in name else [name]
             if (name in found or all(part in found for part in parts)) and not (name in bound and len(key) == 4):
                 out[name] = key
         return out
@@ -165,11 +165,11 @@ class Graph:
 
     def theorem(self, crate, name):
         """What a theorem's statement speaks of."""
-        keys = [key for key in self.blocks if key[0] == crate and key[3] == name and key[1] == "proofs"]
+        keys = [key for key in self.blocks if key[0] == crate and key[3].replace("-", "_") == name.replace("-", "_") and key[1] == "proofs"]
         if len(keys) != 1:
             raise SystemExit(f"no theorem {name} in crate {crate}, or two")
         block = self.blocks[keys[0]]
-        return keys[0], set(self.used(block.file.means, words(code("\n".join(block.signature(name)))) - {name}).values())
+        return keys[0], set(self.used(block.file.means, words(code("\n".join(block.signature(keys[0][3])))) - {keys[0][3]}).values())
 
 
 class Function:
@@ -177,6 +177,15 @@ class Function:
 
     def __init__(self, crate, path, name, public, clauses, uses):
         self.crate, self.path, self.name, self.public, self.clauses, self.uses = crate, path, name, public, clauses, uses
+
+
+def clause(text, at):
+    """What stands between a clause's braces, of which the first ends at `at`."""
+    end, depth = at, 1
+    while depth and end < len(text):
+        depth += {"{": 1, "}": -1}.get(text[end], 0)
+        end += 1
+    return text[at : end - 1]
 
 
 def functions(root):
@@ -192,7 +201,7 @@ def functions(root):
             part = text[found.start() : starts[i + 1].start() if i + 1 < len(starts) else len(text)]
             owner = next((name for at, name in reversed(owners) if at < found.start()), None) if found[1] else None
             name = f"{owner}::{found[3]}" if owner else found[3]
-            clauses = re.findall(r"^\s*((?:requires|ensures)\b.*?⌝ \})", part, re.M | re.S)
+            clauses = [clause(part, m.end()) for m in re.finditer(r"^\s*(?:requires|ensures)\*?(?:\s+\w+)?\s*\{", part, re.M)]
             out.append(Function(path.relative_to(pathlib.Path(root) / "crates").parts[0], path, name, bool(found[2]), clauses, uses))
     return out
 

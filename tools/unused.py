@@ -35,7 +35,7 @@ def main():
         key, statement = graph.theorem(crate, name)
         roots |= {key} | statement
     for key in graph.blocks:
-        if "Proof" in key[2] or (key[0], key[3]) in TESTS:
+        if {"Proof", "Answers", "Invariants"} & set(key[2]) or (key[0], key[3].replace("_", "-")) in TESTS:
             roots.add(key)
     live = graph.closure(roots, strict=False)
     rows = [f"{graph.blocks[key].file.path.relative_to(ROOT)}: {key[3]}" for key in sorted(graph.blocks) if key not in live]
