@@ -1,4 +1,6 @@
 // An AIFF file of given samples.
+#![tactic(auto)]
+
 mod file;
 mod head;
 

@@ -4,7 +4,7 @@ ghost use Rattle.laws.specs.Pieces.{put_at};
 ghost use Rattle.byte_order.specs.declared.bytes.ByteOrder.TheVariants.{Little, Big};
 ghost use Rattle.byte_order.specs.Bytes.{number_at, bytes_of};
 
-#[derive(Drop)]
+#[derive(Clone, Copy)]
 pub enum ByteOrder {
     Little,
     Big,

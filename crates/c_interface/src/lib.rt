@@ -1,5 +1,7 @@
 // The routines for C and Rust, as include/room_desk.h declares them: each calls the proved routine of a
 // crate below, whose contract it repeats.
+#![tactic(auto)]
+
 mod aiff_files;
 mod conversions;
 mod shows;

@@ -12,13 +12,13 @@ use limits::{CHUNK_FRAMES, ROUTE_LINES, SEND_LINES, SOUND_LINES, TRACK_PLACES};
 use spatial::Placing;
 
 // A parameter before this chunk and at its end.
-#[derive(Drop)]
+#[derive(Clone, Copy)]
 pub struct Level {
     pub before: Decibels,
     pub now: Decibels,
 }
 
-#[derive(Drop)]
+#[derive(Clone, Copy)]
 pub struct ChunkTrack {
     // A line number from 1, or 0 for the mixer.
     pub parent: usize,
@@ -29,7 +29,7 @@ pub struct ChunkTrack {
 }
 
 // Line numbers from 1, and the amplitude at the chunk's end.
-#[derive(Drop)]
+#[derive(Clone, Copy)]
 pub struct ChunkRoute {
     pub track: usize,
     pub send: usize,
@@ -38,7 +38,7 @@ pub struct ChunkRoute {
 
 // What a sound still has to play: `left` frames from `start` on, of the buffer that it is from. The
 // track is a line number from 1, or 0 for the main track.
-#[derive(Drop)]
+#[derive(Clone, Copy)]
 pub struct ChunkSound {
     pub track: usize,
     pub start: usize,
@@ -46,7 +46,7 @@ pub struct ChunkSound {
     pub from: usize,
 }
 
-#[derive(Drop)]
+#[derive(Clone, Copy)]
 pub struct Chunk {
     pub frames: usize,
     pub track_count: usize,

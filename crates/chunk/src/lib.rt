@@ -1,4 +1,6 @@
 // What mixing a chunk reads: its tables with every level, as structs and as flat arrays of numbers.
+#![tactic(auto)]
+
 mod chunk;
 mod flat;
 

@@ -1,5 +1,7 @@
 // A block of a scene whose mixer stands in lent arrays: chunk by chunk, the state moves, the mix is
 // written, and the sounds move on.
+#![tactic(auto)]
+
 mod chunks;
 
 pub use chunks::{

@@ -8,7 +8,7 @@ use crate::clock_speed::ClockSpeed;
 use crate::clock_time::ClockTime;
 
 // kira's State.
-#[derive(Drop)]
+#[derive(Clone, Copy)]
 pub enum ClockState {
     NotStarted,
     Started {
@@ -17,7 +17,7 @@ pub enum ClockState {
     },
 }
 
-#[derive(Drop)]
+#[derive(Clone, Copy)]
 pub struct Clock {
     pub ticking: bool,
     pub speed: ClockSpeed,

@@ -2,7 +2,7 @@
 ghost use Rattle.std.specs.Prelude.{◌≡◌};
 ghost use Rattle.clock.specs.ClockSpeed.{as_ticks_per_second};
 
-#[derive(Drop)]
+#[derive(Clone, Copy)]
 pub enum ClockSpeed {
     // The clock ticks every so many seconds.
     SecondsPerTick(f64),

@@ -2,7 +2,7 @@
 ghost use Rattle.std.specs.Prelude.{◌≡◌};
 ghost use Rattle.clock.specs.ClockTime.{at_or_after};
 
-#[derive(Drop)]
+#[derive(Clone, Copy)]
 pub struct ClockTime {
     // The clock's index, counted from 0.
     pub clock: usize,

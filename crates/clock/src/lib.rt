@@ -1,5 +1,7 @@
 // Clocks: kira's clock.rs with clock/time.rs and clock/clock_speed.rs, and the part of info.rs that
 // asks clocks when something is to start.
+#![tactic(auto)]
+
 mod clock;
 mod clock_speed;
 mod clock_time;

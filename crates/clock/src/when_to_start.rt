@@ -5,7 +5,7 @@ ghost use Rattle.clock.specs.WhenToStart.{when_to_start};
 use crate::clock::Clock;
 use crate::clock_time::ClockTime;
 
-#[derive(Drop)]
+#[derive(Clone, Copy)]
 pub enum WhenToStart {
     Now,
     // The clock doesn't tick, or has not come to that time.
@@ -15,7 +15,7 @@ pub enum WhenToStart {
 }
 
 // The first `count` of the clocks are there.
-#[derive(Drop)]
+#[derive(Clone, Copy)]
 pub struct Clocks {
     pub clocks: [Clock; 8],
     pub count: usize,

@@ -8,14 +8,14 @@ ghost use Rattle.decibels.specs.Answer.{answered, amplitude_answer};
 
 use gain_table::{GainTable, gain_table};
 
-#[derive(Drop)]
+#[derive(Clone, Copy)]
 pub struct Decibels(pub f32);
 
 // A linear factor. It is a type of its own, so that a level is never taken for a factor.
-#[derive(Drop)]
+#[derive(Clone, Copy)]
 pub struct Amplitude(pub f32);
 
-#[derive(Drop)]
+#[derive(Clone, Copy)]
 pub enum AmplitudeAnswer {
     Given(Amplitude),
     Refused,
@@ -29,7 +29,7 @@ pub const SILENCE: f32 = -60.0;
 
 // Where 16 times a number of decibels stands among the table's entries: the entry below it, and how
 // far above that entry it is.
-#[derive(Drop)]
+#[derive(Clone, Copy)]
 pub struct Position {
     pub entry: usize,
     pub rest: f64,

@@ -1,4 +1,6 @@
 // Decibels and amplitudes, kira's decibels.rs, with the gain table in place of `powf`.
+#![tactic(auto)]
+
 mod decibels;
 mod write;
 

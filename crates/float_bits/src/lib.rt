@@ -1,4 +1,6 @@
 // Floats, their bits, NaN included, and the bytes of those.
+#![tactic(auto)]
+
 mod bits;
 mod bytes;
 

@@ -4,7 +4,7 @@ ghost use Rattle.frame.specs.Frame.{zero_frame, added, scaled, clamp, clamped};
 
 use decibels::Amplitude;
 
-#[derive(Drop)]
+#[derive(Clone, Copy)]
 pub struct Frame {
     pub left: f32,
     pub right: f32,

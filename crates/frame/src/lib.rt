@@ -1,4 +1,6 @@
 // kira's frame.rs, and buffers of frames.
+#![tactic(auto)]
+
 mod buffer;
 mod frame;
 

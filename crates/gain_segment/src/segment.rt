@@ -10,7 +10,7 @@ ghost use Rattle.gain_segment.specs.Segment.{steps_at, decibels_at, segment, seg
 use decibels::{Amplitude, Decibels, SILENCE, position_of};
 use gain_table::GainTable;
 
-#[derive(Drop)]
+#[derive(Clone, Copy)]
 pub struct Segment {
     // Its two ends in decibels.
     pub low: f32,

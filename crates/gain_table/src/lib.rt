@@ -1,5 +1,7 @@
 // The gain table: 2^40 times the amplitude at each sixteenth of a decibel from -60 to 24, cut to a
 // whole number. Made by tools/gain_table.py.
+#![tactic(auto)]
+
 ghost use Rattle.gain_table.specs.GainTable.{IsGainTable};
 
 pub const ENTRIES: usize = 1345;

@@ -13,7 +13,7 @@ const HEADER: usize = 8;
 
 // Where the first chunk of each of two identifiers begins, or 0 where there is none; and whether the
 // chunks fill the file to its end.
-#[derive(Drop)]
+#[derive(Clone, Copy)]
 pub struct Chunks {
     pub first: usize,
     pub second: usize,

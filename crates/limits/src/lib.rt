@@ -1,4 +1,5 @@
 // How many lines, tracks and frames there can be: the sizes of arrays and tables, each said once.
+#![tactic(auto)]
 
 // Lines of a scene's tables.
 pub const CLOCK_LINES: usize = 8;

@@ -12,7 +12,7 @@ use parameter::Parameter;
 use scene::Scene;
 
 // Arrays go by the scene's lines.
-#[derive(Drop)]
+#[derive(Clone, Copy)]
 pub struct Mixer {
     pub clocks: Clocks,
     pub main_volume: Parameter,

@@ -6,7 +6,7 @@ use decibels::Decibels;
 use parameter::Parameter;
 use playback::PlaybackStateManager;
 
-#[derive(Drop)]
+#[derive(Clone, Copy)]
 pub struct Track {
     pub volume: Parameter,
     pub playback: PlaybackStateManager,

@@ -1,4 +1,6 @@
 // Volumes set, tracks paused and resumed, in a mixer whose state stands in lent arrays.
+#![tactic(auto)]
+
 mod playbacks;
 mod volumes;
 

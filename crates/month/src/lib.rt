@@ -1,4 +1,6 @@
 // The totals of a month of mixes, a piece at a time.
+#![tactic(auto)]
+
 mod piece;
 mod totals;
 

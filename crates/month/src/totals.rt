@@ -11,14 +11,14 @@ pub const MOST_MIXES: usize = 1000;
 pub const MOST_SAMPLES: u64 = 1 << 24;
 
 // The largest magnitude, as f32 bits, and where it first stood: mix and sample from 1, all 0 where there is no sample.
-#[derive(Drop)]
+#[derive(Clone, Copy)]
 pub struct Peak {
     pub bits: u32,
     pub mix: u64,
     pub sample: u64,
 }
 
-#[derive(Drop)]
+#[derive(Clone, Copy)]
 pub struct Totals {
     pub mixes: u64,
     pub frames: u64,

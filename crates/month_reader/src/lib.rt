@@ -1,4 +1,6 @@
 // Mixes as they are read, a piece at a time.
+#![tactic(auto)]
+
 mod reading;
 mod stream;
 

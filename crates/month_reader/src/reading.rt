@@ -7,7 +7,7 @@ ghost use Rattle.month_reader.specs.Reading.{MixFile, reading_of, WithWords, Rea
 use month::{MOST_SAMPLES, ONE, Totals};
 
 // The number that refuses, 0 where none does so far, the totals where none does, and the samples of the next mix. With 26 nothing else is kept.
-#[derive(Drop)]
+#[derive(Clone, Copy)]
 pub struct Reading {
     pub number: u32,
     pub totals: Totals,

@@ -5,7 +5,7 @@ ghost use Rattle.month_reader.specs.Reading.{stream_of, WithBytes, WithEnd, Reac
 use crate::reading::{Reading, nothing, with_mix, with_words};
 
 // The bytes of a number that is not whole yet stand at the start of `held`, which zeros fill.
-#[derive(Drop)]
+#[derive(Clone, Copy)]
 pub struct Stream {
     pub reading: Reading,
     pub held: [u8; 4],

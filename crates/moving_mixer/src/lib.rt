@@ -1,4 +1,6 @@
 // A mixer's moving state in lent arrays, and what a chunk's update does to it.
+#![tactic(auto)]
+
 mod mixer_update;
 
 pub use mixer_update::{

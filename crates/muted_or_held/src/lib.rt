@@ -1,4 +1,6 @@
 // Whether a track is muted, and whether it is held, by a scene's tables alone.
+#![tactic(auto)]
+
 mod below;
 mod held;
 mod muted;

@@ -1,5 +1,7 @@
 // The orders by their blocks: of each block the first line, and of each line the next of its block. So
 // a block's orders are found without a look at the others. And which of them count.
+#![tactic(auto)]
+
 mod by_block;
 mod marks;
 

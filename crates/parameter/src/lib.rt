@@ -1,4 +1,6 @@
 // Values that move in time: kira's parameter.rs.
+#![tactic(auto)]
+
 mod parameter;
 
 pub use parameter::{Parameter, ParameterState, ParameterUpdate};

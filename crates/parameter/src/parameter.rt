@@ -9,7 +9,7 @@ use decibels::Decibels;
 use tween::{StartTime, Tween};
 
 // kira's State.
-#[derive(Drop)]
+#[derive(Clone, Copy)]
 pub enum ParameterState {
     Idle {
         value: Decibels,
@@ -23,7 +23,7 @@ pub enum ParameterState {
 }
 
 // A value that can be smoothly moved.
-#[derive(Drop)]
+#[derive(Clone, Copy)]
 pub struct Parameter {
     pub state: ParameterState,
     pub raw_value: Decibels,
@@ -32,14 +32,14 @@ pub struct Parameter {
 }
 
 // A parameter after an update, and whether its tween ended with that.
-#[derive(Drop)]
+#[derive(Clone, Copy)]
 pub struct ParameterUpdate {
     pub parameter: Parameter,
     pub just_finished_tween: bool,
 }
 
 // A tween, and whether its motion has started.
-#[derive(Drop)]
+#[derive(Clone, Copy)]
 struct TweenStart {
     tween: Tween,
     started: bool,

@@ -1,5 +1,7 @@
 // Parameters and playback states as numbers in five arrays, so that they can be lent: an array of
 // structs is copied at each call.
+#![tactic(auto)]
+
 mod parameters;
 mod playbacks;
 mod tweens;

@@ -1,1 +1,3 @@
 // When a pause is over; see specs/ and proofs/laws/. There is no code here.
+
+#![tactic(auto)]

@@ -22,7 +22,7 @@ const OFFSET: f32 = 12582912.0;
 
 const LEAST: u32 = 0x4b3f_8000;
 
-#[derive(Drop)]
+#[derive(Clone, Copy)]
 pub enum Encoding {
     Pcm16,
     Float32,

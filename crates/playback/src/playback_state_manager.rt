@@ -17,7 +17,7 @@ const SILENCE: f32 = -60.0;
 const IDENTITY: f32 = 0.0;
 
 // kira's State, which its PlaybackState shows without what it waits for.
-#[derive(Drop)]
+#[derive(Clone, Copy)]
 pub enum PlaybackState {
     Playing,
     Pausing,
@@ -68,14 +68,14 @@ impl PlaybackState {
     }
 }
 
-#[derive(Drop)]
+#[derive(Clone, Copy)]
 pub struct PlaybackStateManager {
     pub state: PlaybackState,
     pub volume_fade: Parameter,
 }
 
 // A manager after an update, and whether that changed its state.
-#[derive(Drop)]
+#[derive(Clone, Copy)]
 pub struct PlaybackUpdate {
     pub manager: PlaybackStateManager,
     pub changed_playback_state: bool,

@@ -1,4 +1,6 @@
 // The square root of an f32: the nearest f32.
+#![tactic(auto)]
+
 ghost use Rattle.std.specs.Prelude.{◌≡◌, ◌<◌};
 ghost use Rattle.std.specs.Float.{binary32};
 ghost use Rattle.laws.specs.FloatOrder.{plus};

@@ -1,4 +1,6 @@
 // Numbers: a quotient rounded to nearest, f64 to f32, and the units of time.
+#![tactic(auto)]
+
 mod duration;
 mod narrow;
 mod nearest;

@@ -1,4 +1,6 @@
 // The tables of an accepted file, as structs. Nothing about sound.
+#![tactic(auto)]
+
 mod scene;
 
 pub use scene::{

@@ -21,7 +21,7 @@ use scene_tables::{
 use spatial::{Distances, Placing, Position, attenuation};
 use tween::{Easing, StartTime};
 
-#[derive(Drop)]
+#[derive(Clone, Copy)]
 pub struct Head {
     pub rate: usize,
     pub channels: usize,
@@ -31,26 +31,26 @@ pub struct Head {
     pub volume: Decibels,
 }
 
-#[derive(Drop)]
+#[derive(Clone, Copy)]
 pub struct ClockLine {
     pub speed: ClockSpeed,
     pub ticking: bool,
 }
 
 // The parent is a track's line number, counted from 1, or 0 for the mixer.
-#[derive(Drop)]
+#[derive(Clone, Copy)]
 pub struct TrackLine {
     pub parent: usize,
     pub volume: Decibels,
 }
 
-#[derive(Drop)]
+#[derive(Clone, Copy)]
 pub struct SendLine {
     pub volume: Decibels,
 }
 
 // Line numbers, counted from 1.
-#[derive(Drop)]
+#[derive(Clone, Copy)]
 pub struct RouteLine {
     pub track: usize,
     pub send: usize,
@@ -59,7 +59,7 @@ pub struct RouteLine {
 
 // The track is a line number, counted from 1, or 0 for the main track; first and count are frames of the
 // buffer that the sound is from.
-#[derive(Drop)]
+#[derive(Clone, Copy)]
 pub struct SoundLine {
     pub track: usize,
     pub first: usize,
@@ -68,12 +68,12 @@ pub struct SoundLine {
 }
 
 // How a track stands in the room. (A field may hold an array of structs, not one of enums.)
-#[derive(Drop)]
+#[derive(Clone, Copy)]
 pub struct TrackPlacing {
     pub placing: Placing,
 }
 
-#[derive(Drop)]
+#[derive(Clone, Copy)]
 pub enum OrderKind {
     MainVolume,
     TrackVolume,
@@ -84,7 +84,7 @@ pub enum OrderKind {
 }
 
 // The index is a line number, counted from 1, or 0 for the main volume.
-#[derive(Drop)]
+#[derive(Clone, Copy)]
 pub struct OrderLine {
     pub block: usize,
     pub kind: OrderKind,
@@ -95,7 +95,7 @@ pub struct OrderLine {
     pub easing: Easing,
 }
 
-#[derive(Drop)]
+#[derive(Clone, Copy)]
 pub struct Scene {
     pub head: Head,
     pub clock_count: usize,

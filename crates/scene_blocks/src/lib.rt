@@ -1,4 +1,6 @@
 // The blocks of an accepted scene.
+#![tactic(auto)]
+
 mod blocks;
 
 pub use blocks::render_blocks;

@@ -8,7 +8,7 @@ use scene_tables::{TABLES, names_text, rule_of};
 
 // The value lines of one table: how many, where the next line of the file and the next number
 // stand, and whether an empty line ended them.
-#[derive(Drop)]
+#[derive(Clone, Copy)]
 pub struct TableRead {
     pub ok: bool,
     pub lines: usize,
@@ -18,7 +18,7 @@ pub struct TableRead {
 }
 
 // Where each table's numbers begin, and how many lines it has.
-#[derive(Drop)]
+#[derive(Clone, Copy)]
 pub struct Layout {
     pub ok: bool,
     pub starts: [usize; TABLES],

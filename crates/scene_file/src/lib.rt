@@ -1,4 +1,6 @@
 // The scene file: its bytes to the numbers of its tables, each in its place.
+#![tactic(auto)]
+
 mod grammar;
 mod numbers;
 

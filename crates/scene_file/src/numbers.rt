@@ -7,14 +7,14 @@ ghost use Rattle.scene_tables.specs.Bytes.{same_bytes as same_bytes};
 
 use scene_tables::ZERO;
 
-#[derive(Drop)]
+#[derive(Clone, Copy)]
 pub enum Magnitude {
     Is(u64),
     Not,
 }
 
 // A number raised by 2^31.
-#[derive(Drop)]
+#[derive(Clone, Copy)]
 pub enum Number {
     Is(u32),
     Not,

@@ -25,7 +25,7 @@ const QUESTIONS: usize = 10;
 const NUMBERS: [u32; QUESTIONS] = [3, 4, 5, 6, 7, 7, 8, 8, 9, 9];
 
 // The number of the first question that says no, and the scene where it is 0.
-#[derive(Drop)]
+#[derive(Clone, Copy)]
 pub struct Answer {
     pub number: u32,
     pub scene: Scene,

@@ -1,4 +1,6 @@
 // An accepted scene, rendered.
+#![tactic(auto)]
+
 mod start;
 
 pub use start::render_scene;

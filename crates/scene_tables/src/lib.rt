@@ -1,4 +1,6 @@
 // The list of a scene's tables: names lines, line limits, columns with their ranges.
+#![tactic(auto)]
+
 pub mod column;
 mod tables;
 

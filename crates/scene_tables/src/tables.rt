@@ -12,7 +12,7 @@ use limits::{
 };
 
 // The rule of one field. Numbers are raised by 2^31.
-#[derive(Drop)]
+#[derive(Clone, Copy)]
 pub enum Field {
     // A number from the first to the second, both included.
     Number(u32, u32),
@@ -25,7 +25,7 @@ pub enum Field {
 }
 
 // The rule of a line as a whole.
-#[derive(Drop)]
+#[derive(Clone, Copy)]
 pub enum LineRule {
     Plain,
     Speed,
@@ -34,7 +34,7 @@ pub enum LineRule {
 }
 
 // How many value lines a table may have, how many fields each has, and the rule of a line.
-#[derive(Drop)]
+#[derive(Clone, Copy)]
 pub struct TableRule {
     pub least: usize,
     pub most: usize,

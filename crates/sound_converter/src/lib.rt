@@ -1,4 +1,6 @@
 // WAVE files made into AIFF files, and back, value by value.
+#![tactic(auto)]
+
 mod routines;
 mod values;
 

@@ -1,4 +1,6 @@
 // The samples of a sound file's data, frame by frame.
+#![tactic(auto)]
+
 mod data;
 
 pub use data::{read_samples, width_of, write_samples};

@@ -1,4 +1,6 @@
 // A track's place in the room: how loud it is at the listener's.
+#![tactic(auto)]
+
 mod placing;
 mod spatial;
 

@@ -3,7 +3,7 @@ use decibels::Decibels;
 
 // A track without a line of its own is plain; one that has a line is heard at a level, or not at all
 // where there is no listener.
-#[derive(Drop)]
+#[derive(Clone, Copy)]
 pub enum Placing {
     Plain,
     Unheard,

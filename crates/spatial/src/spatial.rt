@@ -11,7 +11,7 @@ const SILENCE: f32 = -60.0;
 
 const IDENTITY: f32 = 0.0;
 
-#[derive(Drop)]
+#[derive(Clone, Copy)]
 pub struct Position {
     pub x: f32,
     pub y: f32,
@@ -19,7 +19,7 @@ pub struct Position {
 }
 
 // kira's `SpatialTrackDistances`.
-#[derive(Drop)]
+#[derive(Clone, Copy)]
 pub struct Distances {
     pub min_distance: f32,
     pub max_distance: f32,

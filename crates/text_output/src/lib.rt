@@ -1,4 +1,6 @@
 // Text put into a buffer from a place on: bytes, decimal numbers, a refusal. Each function answers the place after what it put.
+#![tactic(auto)]
+
 ghost use Rattle.std.specs.Prelude.{◌≡◌, [], ◌∷◌, ◌++◌, ◌+◌, ◌≤◌, ◌<◌, length};
 ghost use Rattle.laws.specs.Pieces.{begun, put_at};
 ghost use Rattle.text_output.specs.Text.{decimal_within, refusal_bytes, printed_refusal};

@@ -1,4 +1,6 @@
 // A track's sounds, found by links and added onto its sum; and the links of the tracks from which something is heard.
+#![tactic(auto)]
+
 mod sounds;
 mod used;
 

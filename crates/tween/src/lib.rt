@@ -1,4 +1,6 @@
 // Tweens, easings and start times: kira's tween.rs, tween/tweenable.rs and start_time.rs.
+#![tactic(auto)]
+
 mod start_time;
 mod tween;
 

@@ -6,7 +6,7 @@ ghost use Rattle.tween.specs.StartTime.{is_immediate, delay_left, start_time_upd
 use clock::{ClockTime, Clocks, WhenToStart};
 
 // When an action is to occur.
-#[derive(Drop)]
+#[derive(Clone, Copy)]
 pub enum StartTime {
     Immediate,
     // So many nanoseconds from now.
@@ -15,7 +15,7 @@ pub enum StartTime {
     ClockTime(ClockTime),
 }
 
-#[derive(Drop)]
+#[derive(Clone, Copy)]
 pub struct StartTimeUpdate {
     pub start_time: StartTime,
     pub will_never_start: bool,

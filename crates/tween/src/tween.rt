@@ -7,7 +7,7 @@ pub mod tweenable;
 use crate::start_time::StartTime;
 
 // The curve of a tween's motion.
-#[derive(Drop)]
+#[derive(Clone, Copy)]
 pub enum Easing {
     Linear,
     InPowi(u32),
@@ -56,7 +56,7 @@ fn powi(x: f64, power: u32) -> f64
 }
 
 // A smooth transition between values.
-#[derive(Drop)]
+#[derive(Clone, Copy)]
 pub struct Tween {
     // When the motion starts.
     pub start_time: StartTime,

@@ -1,4 +1,6 @@
 // What a sound file in the form RIFF/WAVE holds.
+#![tactic(auto)]
+
 mod sound;
 
 pub use sound::{

@@ -25,7 +25,7 @@ pub const PCM: u32 = 1;
 pub const FLOAT: u32 = 3;
 
 // Where the data begin, and how many frames they have.
-#[derive(Drop)]
+#[derive(Clone, Copy)]
 pub struct Sound {
     pub rate: u32,
     pub channels: u32,
@@ -34,13 +34,13 @@ pub struct Sound {
     pub frames: u32,
 }
 
-#[derive(Drop)]
+#[derive(Clone, Copy)]
 pub enum Found {
     Holds(Sound),
     Refused(u32),
 }
 
-#[derive(Drop)]
+#[derive(Clone, Copy)]
 pub enum Kind {
     Known(Encoding),
     Other,

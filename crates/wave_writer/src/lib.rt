@@ -1,4 +1,6 @@
 // A WAVE file of given samples, and what any writer asks.
+#![tactic(auto)]
+
 mod file;
 mod head;
 mod questions;
