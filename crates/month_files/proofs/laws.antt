@@ -4,3 +4,4 @@ pub mod Text
 pub mod Month
 pub mod Cut
 pub mod Read
+pub mod Names

@@ -7,7 +7,7 @@ use mathlib.Core.Bool.{Bool, true, false, ◌&&◌}
 use lib.IntN.{ℤ, pos, negsuc}
 use lib.Dec.{T, leb, ltb, eqb, eqb→eq, ltb→lt, leb→le}
 use lib.Pow.{pow-add, pow_pos}
-use lib.Ieee.{Float, fin, Format, binary32, binary64, prec, emax, low, up, down, fits, top, of_bits}
+use lib.Ieee.{Float, fin, Format, binary32, binary64, prec, emax, low, up, down, fits, of_bits}
 use lib.Ieee.Fits.{and_l, and_r}
 use Rattle.laws.proofs.laws.Arithmetic.{exponent_le}
 use Rattle.laws.specs.Float.{pos_zero, neg_zero}

@@ -1,12 +1,13 @@
 -- The level at a distance lies in -60..0 decibels, so it has an amplitude, and the factor of a placing lies in 0..1. Assumes nothing.
-use mathlib.Core.Path.{◌≡◌, sym, ◌∙◌, subst}
+use mathlib.Core.Path.{◌≡◌, refl, sym, ◌∙◌, subst}
 use mathlib.Core.Bool.{true, false, not, ◌&&◌}
 use Prim.Native.Nat.{ℕ, ◌+◌, ◌*◌, ◌^◌, ◌≤◌, ◌<◌}
 use native.Mathlib.Nat.{zero-mul}
 use native.Mathlib.Omega.{arith}
 use lib.Dec.{T, lit<, lit≤}
 use lib.Pow.{pow_pos}
-use lib.Ieee.{Float, Format, binary32, binary64, prec, low, neg, round, sub, le, fits, is_nan, of_int}
+use lib.IntN.{pos}
+use lib.Ieee.{fin, Float, Format, binary32, binary64, prec, low, neg, round, sub, le, fits, is_nan, of_int}
 use lib.Ieee.Fits.{and_i, fits_widens}
 use Rattle.laws.specs.Float.{whole}
 use Rattle.laws.specs.FloatOrder.{plus, minus}
@@ -21,7 +22,7 @@ use Rattle.laws.proofs.laws.Interpolate.{range_widens, exact_up}
 use Rattle.rounding.specs.Narrow.{narrowed}
 use Rattle.rounding.proofs.laws.Narrow.{narrowed_unit}
 use Rattle.decibels.specs.declared.decibels.Decibels.{Decibels}
-use Rattle.decibels.specs.Decibels.{admitted}
+use Rattle.decibels.specs.Decibels.{admitted, silence}
 use Rattle.decibels.proofs.laws.Decibels.{amplitude_between, read_admitted}
 use Rattle.tween.specs.Tween.{easing_apply}
 use Rattle.tween.specs.Tweenable.{interpolated}
@@ -62,6 +63,30 @@ module _ (f : Format) (p : ℕ) (P : p < 2 ^ prec f) (t : Float) (A : InUnit f t
 widens : (x : Float) → InUnit binary32 x → T (fits binary64 x && not (is_nan x))
 widens x h = and_i (fits binary64 x) (not (is_nan x)) (fits_widens x h.held) (not_nan x (amount_number binary32 x h).is_finite)
 
+sixty_below : integer binary32 true 60 ≡ fin true 15 (pos 2)
+unfolding round
+sixty_below = refl
+
+silence_below : silence ≡ fin true 15 (pos 2)
+unfolding neg of_int round
+silence_below = refl
+
+zero_is : integer binary32 false 0 ≡ fin false 0 (pos 0)
+unfolding round
+zero_is = refl
+
+whole_zero : whole 0 ≡ fin false 0 (pos 0)
+unfolding of_int round
+whole_zero = refl
+
+-- from silence to 0 dB by an amount
+eased_in : (t : Float) → InUnit binary32 t → PlacingIn (Spatial (interpolated (record { 0 = silence }) (record { 0 = whole 0 }) t))
+unfolding interpolated
+eased_in t h =
+    subst (λ (x : Float). InRange binary32 60 0 (interpolate binary32 x (whole 0) (narrowed t))) (sixty_below ∙ sym silence_below)
+    (subst (λ (y : Float). InRange binary32 60 0 (interpolate binary32 (integer binary32 true 60) y (narrowed t))) (zero_is ∙ sym whole_zero)
+    (rises_to_zero binary32 60 (lit< tt) (narrowed t) (narrowed_unit binary32 t h)))
+
 -- the amount that is interpolated by is 1 less the relative distance
 module _ (l p : Position) (d : Distances) (L : PositionIn l) (P : PositionIn p) (D : DistancesIn d) where
   volume_in : InUnit binary32 (sub binary32 (whole 1) (relative_distance d (distance l p)))
@@ -79,10 +104,8 @@ module _ (l p : Position) (d : Distances) (L : PositionIn l) (P : PositionIn p) 
   relative_volume_widens v e = widens v (subst (InUnit binary32) (sym e) relative_volume_in)
 
   pub attenuation_in : PlacingIn (Spatial (attenuation l p d))
-  unfolding attenuation interpolated neg of_int round
-  attenuation_in =
-      let t = relative_volume (relative_distance d (distance l p)) in
-      rises_to_zero binary32 60 (lit< tt) (narrowed t) (narrowed_unit binary32 t relative_volume_in)
+  unfolding attenuation
+  attenuation_in = eased_in (relative_volume (relative_distance d (distance l p))) relative_volume_in
 
 -- ---- the factor
 

@@ -82,3 +82,7 @@ module _ (column : Column) where
   pub below32_too_long : (n : ℕ) → column ≡ Number n → 2 ^ 32 ≤ n → the32.Malformed ≡ below32 column
   unfolding below32
   below32_too_long n e h = sym (ap below32 e ∙ cond_at (the32.Number n) the32.Malformed (le-ltb n (2 ^ 32) h))
+
+pub malformed_from_default : (column : Column) → ((n : ℕ) → column ≡ Number n → ⊥) → column ≡ Malformed
+malformed_from_default (Number n) h = absurd (h n refl)
+malformed_from_default Malformed h = refl

@@ -1,0 +1,21 @@
+-- A loop over the frames of two buffers: its invariant is `with_first` of the turn.
+use mathlib.Core.Path.{refl, sym, ap₂, ◌∙◌}
+use native.Mathlib.Omega.{arith}
+use borrow.Author.Rules.{rules}
+use Rattle.frame.specs.Frame.{added_from, added}
+use Rattle.frame.specs.Layout.{scratch, frame_at}
+use Rattle.frame.proofs.laws.Layout.{first_zero, first_put, first_end}
+use Rattle.frame.proofs.buffer.add_frames.Goals as goal
+
+pub loop-i-init : goal.loop-i-init
+loop-i-init c = (search rules, refl, sym (first_zero (scratch 0 c.args.frames) _ _))
+
+pub loop-i-preserved : goal.loop-i-preserved
+unfolding added_from
+loop-i-preserved c =
+    let h = c.loop-i-test.true in
+    let e = first_put (scratch 0 c.args.frames) (added_from (frame_at (scratch 0 c.args.frames) c.args.from.now)) c.loop-i.i c.args.to.now c.loop-i.invariant.1 c.loop-i.invariant.2 (c.added-sum.ensures ∙ ap₂ added c.frame_at.ensures c.frame_at-in-loop-i.ensures) c.put_frame.ensures in
+    (omega (arith, h, c.loop-i.invariant.0), e.0, e.1)
+
+pub returns : goal.returns
+returns c = first_end (scratch 0 c.args.frames) (added_from (frame_at (scratch 0 c.args.frames) c.args.from.now)) c.args.to.now (omega (arith, c.loop-i-test.false, c.loop-i.invariant.0)) c.loop-i.invariant.2

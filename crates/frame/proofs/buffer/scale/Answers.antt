@@ -1,0 +1,22 @@
+-- A loop over the frames of a buffer: its invariant is `with_first` of the turn.
+use mathlib.Core.Path.{refl, sym, ap, ◌∙◌}
+use native.Mathlib.Omega.{arith}
+use borrow.Author.Rules.{rules}
+use Rattle.frame.specs.declared.frame.Frame.{Frame}
+use Rattle.frame.specs.Frame.{scaled_by, scaled}
+use Rattle.frame.specs.Layout.{scratch}
+use Rattle.frame.proofs.laws.Layout.{first_zero, first_put, first_end}
+use Rattle.frame.proofs.buffer.scale.Goals as goal
+
+pub loop-i-init : goal.loop-i-init
+loop-i-init c = (search rules, refl, sym (first_zero (scratch 0 c.args.frames) _ _))
+
+pub loop-i-preserved : goal.loop-i-preserved
+unfolding scaled_by
+loop-i-preserved c =
+    let h = c.loop-i-test.true in
+    let e = first_put (scratch 0 c.args.frames) (scaled_by c.args.factor) c.loop-i.i c.args.out.now c.loop-i.invariant.1 c.loop-i.invariant.2 (c.scaled-frame.ensures ∙ ap (λ (a : Frame). scaled a c.args.factor) c.frame_at.ensures) c.put_frame.ensures in
+    (omega (arith, h, c.loop-i.invariant.0), e.0, e.1)
+
+pub returns : goal.returns
+returns c = first_end (scratch 0 c.args.frames) (scaled_by c.args.factor) c.args.out.now (omega (arith, c.loop-i-test.false, c.loop-i.invariant.0)) c.loop-i.invariant.2

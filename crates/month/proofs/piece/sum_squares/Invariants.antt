@@ -1,0 +1,16 @@
+use mathlib.Core.Path.{◌≡◌}
+use mathlib.Core.List.{[], ◌∷◌}
+use Prim.Native.Nat.{◌-◌, ◌*◌, ◌/◌, ◌≤◌}
+use lib.ListN.{length}
+use Rattle.laws.specs.Pieces.{pieces}
+use Rattle.byte_order.specs.declared.bytes.ByteOrder.TheVariants.{Little}
+use Rattle.byte_order.specs.Bytes.{number_at}
+use Rattle.month.specs.Month.{square, sum_of}
+use Rattle.month.specs.Piece.{square_most}
+use Rattle.month.proofs.piece.sum_squares.Given as goal
+
+abbrev pub invariant-loop-i : goal.invariant-loop-i
+invariant-loop-i l = (l.n ≡ length l.piece / 4) × (l.i ≤ l.n) × (l.sum ≤ l.i * square_most) × (l.sum ≡ sum_of square (pieces (λ j. number_at Little l.piece (4 * j) 4 ∷ []) l.i))
+
+abbrev pub decreases-loop-i : goal.decreases-loop-i
+decreases-loop-i l = l.n - l.i

@@ -1,0 +1,7 @@
+-- `distances_of` meets its contract: each field is read from its place. Assumes nothing.
+use Rattle.std.proofs.Common.{rules}
+use Rattle.scene.proofs.laws.LineValues.{distances_is}
+use Rattle.scene.proofs.scene.distances_of.Goals as goal
+
+pub returns : goal.returns
+returns c = search (distances_is, rules)

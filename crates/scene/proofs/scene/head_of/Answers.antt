@@ -1,0 +1,7 @@
+-- `head_of` meets its contract: each field is read from its place. Assumes nothing.
+use Rattle.std.proofs.Common.{rules}
+use Rattle.scene.proofs.laws.LineValues.{head_is}
+use Rattle.scene.proofs.scene.head_of.Goals as goal
+
+pub returns : goal.returns
+returns c = search (head_is, rules)

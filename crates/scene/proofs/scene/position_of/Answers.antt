@@ -1,0 +1,7 @@
+-- `position_of` meets its contract: each field is read from its place. Assumes nothing.
+use Rattle.std.proofs.Common.{rules}
+use Rattle.scene.proofs.laws.LineValues.{position_is}
+use Rattle.scene.proofs.scene.position_of.Goals as goal
+
+pub returns : goal.returns
+returns c = search (position_is, rules)

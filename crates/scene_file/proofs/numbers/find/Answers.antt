@@ -1,0 +1,17 @@
+-- `find` meets its contract: the bytes passed are others, so the place is as far again from here. Assumes nothing.
+use borrow.Author.Rules.{rules}
+use native.Mathlib.Omega.{arith}
+use Rattle.scene_file.proofs.laws.Numbers.{position_none, position_found, position_passed}
+use Rattle.scene_file.proofs.numbers.find.Goals as goal
+
+pub loop-i-init : goal.loop-i-init
+loop-i-init c = (omega arith, omega arith)
+
+pub returns-then-s-i : goal.returns-then-s-i
+returns-then-s-i c = search (position_found, rules)
+
+pub loop-i-preserved : goal.loop-i-preserved
+loop-i-preserved c = (omega arith, search (position_passed, rules))
+
+pub returns : goal.returns
+returns c = search (position_none, rules)

@@ -1,0 +1,12 @@
+use mathlib.Core.Path.{◌≡◌}
+use Prim.Native.Nat.{◌-◌, ◌≤◌}
+use lib.ListN.{length}
+use Rattle.frame.specs.Layout.{scratch, frame_at, with_first}
+use Rattle.send_track.proofs.laws.Steady.{sent_each}
+use Rattle.send_track.proofs.send.add_send.Given as goal
+
+abbrev pub invariant-loop-i : goal.invariant-loop-i
+invariant-loop-i l = (l.i ≤ l.frames) × (length l.out ≡ length l.initial.out) × (l.out ≡ with_first (scratch 0 l.frames) (sent_each (frame_at (scratch l.first l.frames) l.inputs) l.factors) l.i l.initial.out)
+
+abbrev pub decreases-loop-i : goal.decreases-loop-i
+decreases-loop-i l = l.frames - l.i

@@ -1,0 +1,12 @@
+use mathlib.Core.Path.{◌≡◌}
+use Prim.Native.Nat.{◌-◌, ◌≤◌}
+use lib.ListN.{length}
+use Rattle.frame.specs.Layout.{scratch, with_first}
+use Rattle.track_volume.proofs.laws.Steady.{scaled_along}
+use Rattle.track_volume.proofs.volume.apply_each.Given as goal
+
+abbrev pub invariant-loop-i : goal.invariant-loop-i
+invariant-loop-i l = (l.i ≤ l.frames) × (length l.out ≡ length l.initial.out) × (l.out ≡ with_first (scratch 0 l.frames) (scaled_along l.volume l.fade l.frames) l.i l.initial.out)
+
+abbrev pub decreases-loop-i : goal.decreases-loop-i
+decreases-loop-i l = l.frames - l.i
