@@ -1,19 +1,13 @@
 -- Buffers of frames. A buffer is a list of numbers, and a layout says where in it frames stand. Everything above speaks of frames, and not of places.
-use Rattle.std.specs.Prelude.{◌≡◌, ◌≢◌, List, ℕ, ◌+◌, ◌*◌, ◌≤◌, ◌<◌, get_or, set, Float}
-use Rattle.std.proofs.Common.{arith}
+use Rattle.std.specs.Prelude.{◌≡◌, List, ℕ, ◌+◌, ◌*◌, ◌<◌, get_or, set, Float}
 use Rattle.std.specs.Float.{nan}
 use Rattle.laws.specs.Loop.{upto}
 use Rattle.frame.specs.declared.frame.Frame.{Frame}
 
--- n frames in the 2 * n places from `first` on: where the left and the right side of frame i < n stand. No two sides stand in one place.
+-- n frames in the 2 * n places from `first` on: where the left and the right side of frame i < n stand
 pub record Layout (first n : ℕ) : Type 0 where
   pub left : ℕ → ℕ
   pub right : ℕ → ℕ
-  pub left_in : (i : ℕ) → i < n → (first ≤ left i) × (left i < first + 2 * n)
-  pub right_in : (i : ℕ) → i < n → (first ≤ right i) × (right i < first + 2 * n)
-  pub lefts : (i j : ℕ) → i < n → j < n → i ≢ j → left i ≢ left j
-  pub rights : (i j : ℕ) → i < n → j < n → i ≢ j → right i ≢ right j
-  pub apart : (i j : ℕ) → i < n → j < n → left i ≢ right j
 
 -- left and right in turn
 unfoldable pub interleaved : (first n : ℕ) → Layout first n
@@ -21,11 +15,6 @@ interleaved first n =
     record {
       left = λ i. first + 2 * i;
       right = λ i. first + 2 * i + 1;
-      left_in = λ i h. (omega arith, omega arith);
-      right_in = λ i h. (omega arith, omega arith);
-      lefts = λ i j p q h e. h (omega arith);
-      rights = λ i j p q h e. h (omega arith);
-      apart = λ i j p q e. absurd (omega arith);
     }
 
 -- n left sides, and directly behind them the n right ones
@@ -34,11 +23,6 @@ planar first n =
     record {
       left = λ i. first + i;
       right = λ i. first + n + i;
-      left_in = λ i h. (omega arith, omega arith);
-      right_in = λ i h. (omega arith, omega arith);
-      lefts = λ i j p q h e. h (omega arith);
-      rights = λ i j p q h e. h (omega arith);
-      apart = λ i j p q e. absurd (omega arith);
     }
 
 -- the layout of what tracks and send tracks are mixed in

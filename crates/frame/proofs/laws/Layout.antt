@@ -21,6 +21,7 @@ use Rattle.laws.proofs.laws.Loop.{upto_zero, upto-suc, upto_turn, upto_cong}
 use Rattle.frame.specs.declared.frame.Frame.{Frame}
 use Rattle.frame.specs.Frame.{zero_frame, zero_sample, from_frame}
 use Rattle.frame.specs.Layout.{Layout, frame_at, put_frame, with_first, with_frames}
+use Rattle.frame.proofs.laws.Places.{SidesApart}
 
 -- a step on frames by their number
 abbrev pub Step : Type 0
@@ -109,34 +110,13 @@ below_far : (i n m : ℕ) → i < n → n ≤ m → i < m
 below_far i n m h k = omega arith
 
 module _ {first n : ℕ} (L : Layout first n) where
-  -- two frames of it
-  frames_apart : (i j : ℕ) → i < n → j < n → i ≢ j → Four (L.left i) (L.right i) (L.left j) (L.right j)
-  frames_apart i j p q h = record { xu = L.lefts i j p q h; xv = L.apart i j p q; yu = λ e. L.apart j i q p (sym e); yv = L.rights i j p q h }
-
   pub put_length : (l : List Float) (i : ℕ) (a : Frame) → length (put_frame L l i a) ≡ length l
   unfolding put_frame write
   put_length l i a = write_length l (L.left i) (L.right i) a
 
-  pub put_same : (l : List Float) (i : ℕ) (a : Frame) → i < n → first + 2 * n ≤ length l → frame_at L (put_frame L l i a) i ≡ a
-  unfolding frame_at put_frame read write
-  put_same l i a p h =
-      write_same l (L.left i) (L.right i) a (L.apart i i p p) (below_far (L.left i) (first + 2 * n) (length l) (L.left_in i p).1 h) (below_far (L.right i) (first + 2 * n) (length l) (L.right_in i p).1 h)
-
-  pub put_other : (l : List Float) (i j : ℕ) (a : Frame) → i < n → j < n → i ≢ j → frame_at L (put_frame L l j a) i ≡ frame_at L l i
-  unfolding frame_at put_frame read write
-  put_other l i j a p q h = write_other l (L.left i) (L.right i) (L.left j) (L.right j) a (frames_apart i j p q h)
-
   put_own : (l : List Float) (i : ℕ) → put_frame L l i (frame_at L l i) ≡ l
   unfolding frame_at put_frame read write
   put_own l i = write_own l (L.left i) (L.right i)
-
-  put_twice : (l : List Float) (i : ℕ) (a b : Frame) → i < n → put_frame L (put_frame L l i a) i b ≡ put_frame L l i b
-  unfolding put_frame write
-  put_twice l i a b p = write_twice l (L.left i) (L.right i) a b (L.apart i i p p)
-
-  put_comm : (l : List Float) (i j : ℕ) (a b : Frame) → i < n → j < n → i ≢ j → put_frame L (put_frame L l i b) j a ≡ put_frame L (put_frame L l j a) i b
-  unfolding put_frame write
-  put_comm l i j a b p q h = write_comm l (L.left i) (L.right i) (L.left j) (L.right j) a (frames_apart i j p q h) b
 
   -- ---- steps on the first m frames
 
@@ -168,36 +148,6 @@ module _ {first n : ℕ} (L : Layout first n) where
   unfolding with_first
   first_put f i l {now} {last} {b} len e is p = (ap length p ∙ put_length now i b ∙ len, p ∙ ap (put_frame L now i) is ∙ upto_turn (turn f) i l e)
 
-  -- from m on a frame is the old one
-  pub first_from : (f : Step) (m : ℕ) (l : List Float) (k : ℕ) → m ≤ k → k < n → frame_at L (with_first L f m l) k ≡ frame_at L l k
-  first_from f zero l k h p = ap (λ (r : List Float). frame_at L r k) (first_zero f l)
-  first_from f (suc m) l k h p =
-      ap (λ (r : List Float). frame_at L r k) (first_suc f m l)
-      ∙ put_other (with_first L f m l) k m (f m (frame_at L (with_first L f m l) m)) p (le_trans h (le_trans (le-suc k) p)) (λ e. above m k h e)
-      ∙ first_from f m l k (le_trans (le-suc m) h) p
-    where
-      above : (m k : ℕ) → suc m ≤ k → k ≢ m
-      above m k h e = absurd (omega arith)
-
-  -- below m it is f of the old one
-  pub first_at : (f : Step) (m : ℕ) (l : List Float) (k : ℕ) → m ≤ n → first + 2 * n ≤ length l → k < m → frame_at L (with_first L f m l) k ≡ f k (frame_at L l k)
-  first_at f zero l k w r h = absurd (not-suc-le-zero h)
-  first_at f (suc m) l k w r h =
-      ap (λ (x : List Float). frame_at L x k) (first_suc f m l)
-      ∙ elim (eq-or-lt_of_le (le_of_suc-le-suc h)) [
-        | inl e ↦
-            subst (λ (i : ℕ). frame_at L (turn f i (with_first L f m l)) k ≡ f k (frame_at L l k)) e
-            (put_same (with_first L f m l) k (f k (frame_at L (with_first L f m l) k)) (le_trans h w) (subst (λ (b : ℕ). first + 2 * n ≤ b) (sym (first_length f m l)) r)
-            ∙ ap (f k) (first_from f m l k (reach m k e) (le_trans h w)))
-        | inr b ↦ put_other (with_first L f m l) k m (f m (frame_at L (with_first L f m l) m)) (le_trans h w) w (below m k b) ∙ first_at f m l k (le_trans (le-suc m) w) r b
-      ]
-    where
-      reach : (m k : ℕ) → k ≡ m → m ≤ k
-      reach m k e = omega arith
-
-      below : (m k : ℕ) → k < m → k ≢ m
-      below m k h e = absurd (omega arith)
-
   -- steps that agree on the frames give the same
   pub first_cong : (f g : Step) (m : ℕ) (l : List Float) → ((k : ℕ) → k < m → (a : Frame) → f k a ≡ g k a) → with_first L f m l ≡ with_first L g m l
   unfolding with_first
@@ -212,56 +162,9 @@ module _ {first n : ℕ} (L : Layout first n) where
       ∙ ap (put_frame L l m) (h m (le_refl (suc m)))
       ∙ put_own l m
 
-  -- steps that agree on the frames that are there
-  pub first_cong_at : (f g : Step) (m : ℕ) (l : List Float) → m ≤ n → ((k : ℕ) → k < m → f k (frame_at L l k) ≡ g k (frame_at L l k)) → with_first L f m l ≡ with_first L g m l
-  first_cong_at f g zero l w h = first_zero f l ∙ sym (first_zero g l)
-  first_cong_at f g (suc m) l w h =
-      let old = with_first L g m l in
-      let own : frame_at L old m ≡ frame_at L l m = first_from g m l m (le_refl m) w in
-      first_suc f m l
-      ∙ ap (turn f m) (first_cong_at f g m l (le_trans (le-suc m) w) (λ k p. h k (le_trans p (le-suc m))))
-      ∙ ap (put_frame L old m) (ap (f m) own ∙ h m (le_refl (suc m)) ∙ sym (ap (g m) own))
-      ∙ sym (first_suc g m l)
-
   -- a step that changes nothing
   pub first_same : (f : Step) (m : ℕ) (l : List Float) → ((k : ℕ) → k < m → (a : Frame) → f k a ≡ a) → with_first L f m l ≡ l
   first_same f m l h = first_held f m l (λ k p. h k p (frame_at L l k))
-
-  -- a frame put behind the first m
-  first_through : (g : Step) (m : ℕ) (l : List Float) (k : ℕ) (a : Frame) → m ≤ k → k < n → with_first L g m (put_frame L l k a) ≡ put_frame L (with_first L g m l) k a
-  first_through g zero l k a h p = first_zero g (put_frame L l k a) ∙ ap (λ (r : List Float). put_frame L r k a) (sym (first_zero g l))
-  first_through g (suc m) l k a h p =
-      let old = with_first L g m l in
-      let q : m < n = le_trans h (le_trans (le-suc k) p) in
-      first_suc g m (put_frame L l k a)
-      ∙ ap (turn g m) (first_through g m l k a (le_trans (le-suc m) h) p)
-      ∙ ap (λ (c : Frame). put_frame L (put_frame L old k a) m (g m c)) (put_other old m k a q p (below m k h))
-      ∙ put_comm old k m (g m (frame_at L old m)) a p q (λ e. below m k h (sym e))
-      ∙ ap (λ (r : List Float). put_frame L r k a) (sym (first_suc g m l))
-    where
-      below : (m k : ℕ) → suc m ≤ k → m ≢ k
-      below m k h e = absurd (omega arith)
-
-  -- the first m frames by f, and then the first j by g
-  first_more : (f g : Step) (m : ℕ) (l : List Float) → m < n → first + 2 * n ≤ length l → with_first L g m (with_first L f m l) ≡ with_first L (λ i a. g i (f i a)) m l → with_first L g (suc m) (with_first L f (suc m) l) ≡ with_first L (λ i a. g i (f i a)) (suc m) l
-  first_more f g m l p r e =
-      let h : Step = λ i a. g i (f i a) in
-      let a = f m (frame_at L (with_first L f m l) m) in
-      let both = with_first L h m l in
-      let moved : with_first L g m (with_first L f (suc m) l) ≡ put_frame L both m a =
-      ap (with_first L g m) (first_suc f m l) ∙ first_through g m (with_first L f m l) m a (le_refl m) p ∙ ap (λ (x : List Float). put_frame L x m a) e in
-      let own : a ≡ f m (frame_at L both m) = ap (f m) (first_from f m l m (le_refl m) p ∙ sym (first_from h m l m (le_refl m) p)) in
-      first_suc g m (with_first L f (suc m) l)
-      ∙ ap (turn g m) moved
-      ∙ ap (λ (c : Frame). put_frame L (put_frame L both m a) m (g m c)) (put_same both m a p (subst (λ (b : ℕ). first + 2 * n ≤ b) (sym (first_length h m l)) r))
-      ∙ put_twice both m a (g m a) p
-      ∙ ap (λ (c : Frame). put_frame L both m (g m c)) own
-      ∙ sym (first_suc h m l)
-
-  -- one step after another is one step
-  pub first_twice : (f g : Step) (m : ℕ) (l : List Float) → m ≤ n → first + 2 * n ≤ length l → with_first L g m (with_first L f m l) ≡ with_first L (λ i a. g i (f i a)) m l
-  first_twice f g zero l w r = first_zero g (with_first L f 0 l) ∙ first_zero f l ∙ sym (first_zero (λ i a. g i (f i a)) l)
-  first_twice f g (suc m) l w r = first_more f g m l w r (first_twice f g m l (le_trans (le-suc m) w) r)
 
   -- ---- the first m frames, and then the rest
 
@@ -280,18 +183,119 @@ module _ {first n : ℕ} (L : Layout first n) where
   first_part : (f : Step) (m j : ℕ) (l : List Float) → m ≤ j → with_first L f m l ≡ with_first L (to_frame m f) j l
   first_part f m j l h = first_cong f (to_frame m f) m l (λ k p a. sym (to_before m f k a p)) ∙ first_further (to_frame m f) m j l h (λ k p a. to_on m f k a p)
 
-  -- the first m frames by f, and then all by f from m on
-  pub first_rest : (f g : Step) (m : ℕ) (l : List Float) → m ≤ n → first + 2 * n ≤ length l → ((k : ℕ) → m ≤ k → k < n → (a : Frame) → g k a ≡ f k a) → with_frames L (from_frame m g) (with_first L f m l) ≡ with_frames L f l
-  first_rest f g m l w r e =
-      ap (with_frames L (from_frame m g)) (first_part f m n l w)
-      ∙ first_twice (to_frame m f) (from_frame m g) n l (le_refl n) r
-      ∙ first_cong (λ i a. from_frame m g i (to_frame m f i a)) f n l (λ k p a. each k a p)
-    where
-      each : (k : ℕ) (a : Frame) → k < n → from_frame m g k (to_frame m f k a) ≡ f k a
-      each k a p = elim (below_or_not k m) [
-        | inl b ↦ from_before m g k (to_frame m f k a) b ∙ to_before m f k a b
-        | inr b ↦ from_on m g k (to_frame m f k a) b ∙ ap (g k) (to_on m f k a b) ∙ e k b p a
-      ]
+  -- ---- where no two sides stand in one place
+
+  module _ (D : SidesApart L) where
+    -- two frames of it
+    frames_apart : (i j : ℕ) → i < n → j < n → i ≢ j → Four (L.left i) (L.right i) (L.left j) (L.right j)
+    frames_apart i j p q h = record { xu = D.lefts i j p q h; xv = D.apart i j p q; yu = λ e. D.apart j i q p (sym e); yv = D.rights i j p q h }
+
+    pub put_same : (l : List Float) (i : ℕ) (a : Frame) → i < n → first + 2 * n ≤ length l → frame_at L (put_frame L l i a) i ≡ a
+    unfolding frame_at put_frame read write
+    put_same l i a p h =
+        write_same l (L.left i) (L.right i) a (D.apart i i p p) (below_far (L.left i) (first + 2 * n) (length l) (D.left_in i p).1 h) (below_far (L.right i) (first + 2 * n) (length l) (D.right_in i p).1 h)
+
+    pub put_other : (l : List Float) (i j : ℕ) (a : Frame) → i < n → j < n → i ≢ j → frame_at L (put_frame L l j a) i ≡ frame_at L l i
+    unfolding frame_at put_frame read write
+    put_other l i j a p q h = write_other l (L.left i) (L.right i) (L.left j) (L.right j) a (frames_apart i j p q h)
+
+    put_twice : (l : List Float) (i : ℕ) (a b : Frame) → i < n → put_frame L (put_frame L l i a) i b ≡ put_frame L l i b
+    unfolding put_frame write
+    put_twice l i a b p = write_twice l (L.left i) (L.right i) a b (D.apart i i p p)
+
+    put_comm : (l : List Float) (i j : ℕ) (a b : Frame) → i < n → j < n → i ≢ j → put_frame L (put_frame L l i b) j a ≡ put_frame L (put_frame L l j a) i b
+    unfolding put_frame write
+    put_comm l i j a b p q h = write_comm l (L.left i) (L.right i) (L.left j) (L.right j) a (frames_apart i j p q h) b
+
+    -- from m on a frame is the old one
+    pub first_from : (f : Step) (m : ℕ) (l : List Float) (k : ℕ) → m ≤ k → k < n → frame_at L (with_first L f m l) k ≡ frame_at L l k
+    first_from f zero l k h p = ap (λ (r : List Float). frame_at L r k) (first_zero f l)
+    first_from f (suc m) l k h p =
+        ap (λ (r : List Float). frame_at L r k) (first_suc f m l)
+        ∙ put_other (with_first L f m l) k m (f m (frame_at L (with_first L f m l) m)) p (le_trans h (le_trans (le-suc k) p)) (λ e. above m k h e)
+        ∙ first_from f m l k (le_trans (le-suc m) h) p
+      where
+        above : (m k : ℕ) → suc m ≤ k → k ≢ m
+        above m k h e = absurd (omega arith)
+
+    -- below m it is f of the old one
+    pub first_at : (f : Step) (m : ℕ) (l : List Float) (k : ℕ) → m ≤ n → first + 2 * n ≤ length l → k < m → frame_at L (with_first L f m l) k ≡ f k (frame_at L l k)
+    first_at f zero l k w r h = absurd (not-suc-le-zero h)
+    first_at f (suc m) l k w r h =
+        ap (λ (x : List Float). frame_at L x k) (first_suc f m l)
+        ∙ elim (eq-or-lt_of_le (le_of_suc-le-suc h)) [
+          | inl e ↦
+              subst (λ (i : ℕ). frame_at L (turn f i (with_first L f m l)) k ≡ f k (frame_at L l k)) e
+              (put_same (with_first L f m l) k (f k (frame_at L (with_first L f m l) k)) (le_trans h w) (subst (λ (b : ℕ). first + 2 * n ≤ b) (sym (first_length f m l)) r)
+              ∙ ap (f k) (first_from f m l k (reach m k e) (le_trans h w)))
+          | inr b ↦ put_other (with_first L f m l) k m (f m (frame_at L (with_first L f m l) m)) (le_trans h w) w (below m k b) ∙ first_at f m l k (le_trans (le-suc m) w) r b
+        ]
+      where
+        reach : (m k : ℕ) → k ≡ m → m ≤ k
+        reach m k e = omega arith
+
+        below : (m k : ℕ) → k < m → k ≢ m
+        below m k h e = absurd (omega arith)
+
+    -- steps that agree on the frames that are there
+    pub first_cong_at : (f g : Step) (m : ℕ) (l : List Float) → m ≤ n → ((k : ℕ) → k < m → f k (frame_at L l k) ≡ g k (frame_at L l k)) → with_first L f m l ≡ with_first L g m l
+    first_cong_at f g zero l w h = first_zero f l ∙ sym (first_zero g l)
+    first_cong_at f g (suc m) l w h =
+        let old = with_first L g m l in
+        let own : frame_at L old m ≡ frame_at L l m = first_from g m l m (le_refl m) w in
+        first_suc f m l
+        ∙ ap (turn f m) (first_cong_at f g m l (le_trans (le-suc m) w) (λ k p. h k (le_trans p (le-suc m))))
+        ∙ ap (put_frame L old m) (ap (f m) own ∙ h m (le_refl (suc m)) ∙ sym (ap (g m) own))
+        ∙ sym (first_suc g m l)
+
+    -- a frame put behind the first m
+    first_through : (g : Step) (m : ℕ) (l : List Float) (k : ℕ) (a : Frame) → m ≤ k → k < n → with_first L g m (put_frame L l k a) ≡ put_frame L (with_first L g m l) k a
+    first_through g zero l k a h p = first_zero g (put_frame L l k a) ∙ ap (λ (r : List Float). put_frame L r k a) (sym (first_zero g l))
+    first_through g (suc m) l k a h p =
+        let old = with_first L g m l in
+        let q : m < n = le_trans h (le_trans (le-suc k) p) in
+        first_suc g m (put_frame L l k a)
+        ∙ ap (turn g m) (first_through g m l k a (le_trans (le-suc m) h) p)
+        ∙ ap (λ (c : Frame). put_frame L (put_frame L old k a) m (g m c)) (put_other old m k a q p (below m k h))
+        ∙ put_comm old k m (g m (frame_at L old m)) a p q (λ e. below m k h (sym e))
+        ∙ ap (λ (r : List Float). put_frame L r k a) (sym (first_suc g m l))
+      where
+        below : (m k : ℕ) → suc m ≤ k → m ≢ k
+        below m k h e = absurd (omega arith)
+
+    -- the first m frames by f, and then the first j by g
+    first_more : (f g : Step) (m : ℕ) (l : List Float) → m < n → first + 2 * n ≤ length l → with_first L g m (with_first L f m l) ≡ with_first L (λ i a. g i (f i a)) m l → with_first L g (suc m) (with_first L f (suc m) l) ≡ with_first L (λ i a. g i (f i a)) (suc m) l
+    first_more f g m l p r e =
+        let h : Step = λ i a. g i (f i a) in
+        let a = f m (frame_at L (with_first L f m l) m) in
+        let both = with_first L h m l in
+        let moved : with_first L g m (with_first L f (suc m) l) ≡ put_frame L both m a =
+        ap (with_first L g m) (first_suc f m l) ∙ first_through g m (with_first L f m l) m a (le_refl m) p ∙ ap (λ (x : List Float). put_frame L x m a) e in
+        let own : a ≡ f m (frame_at L both m) = ap (f m) (first_from f m l m (le_refl m) p ∙ sym (first_from h m l m (le_refl m) p)) in
+        first_suc g m (with_first L f (suc m) l)
+        ∙ ap (turn g m) moved
+        ∙ ap (λ (c : Frame). put_frame L (put_frame L both m a) m (g m c)) (put_same both m a p (subst (λ (b : ℕ). first + 2 * n ≤ b) (sym (first_length h m l)) r))
+        ∙ put_twice both m a (g m a) p
+        ∙ ap (λ (c : Frame). put_frame L both m (g m c)) own
+        ∙ sym (first_suc h m l)
+
+    -- one step after another is one step
+    pub first_twice : (f g : Step) (m : ℕ) (l : List Float) → m ≤ n → first + 2 * n ≤ length l → with_first L g m (with_first L f m l) ≡ with_first L (λ i a. g i (f i a)) m l
+    first_twice f g zero l w r = first_zero g (with_first L f 0 l) ∙ first_zero f l ∙ sym (first_zero (λ i a. g i (f i a)) l)
+    first_twice f g (suc m) l w r = first_more f g m l w r (first_twice f g m l (le_trans (le-suc m) w) r)
+
+    -- the first m frames by f, and then all by f from m on
+    pub first_rest : (f g : Step) (m : ℕ) (l : List Float) → m ≤ n → first + 2 * n ≤ length l → ((k : ℕ) → m ≤ k → k < n → (a : Frame) → g k a ≡ f k a) → with_frames L (from_frame m g) (with_first L f m l) ≡ with_frames L f l
+    first_rest f g m l w r e =
+        ap (with_frames L (from_frame m g)) (first_part f m n l w)
+        ∙ first_twice (to_frame m f) (from_frame m g) n l (le_refl n) r
+        ∙ first_cong (λ i a. from_frame m g i (to_frame m f i a)) f n l (λ k p a. each k a p)
+      where
+        each : (k : ℕ) (a : Frame) → k < n → from_frame m g k (to_frame m f k a) ≡ f k a
+        each k a p = elim (below_or_not k m) [
+          | inl b ↦ from_before m g k (to_frame m f k a) b ∙ to_before m f k a b
+          | inr b ↦ from_on m g k (to_frame m f k a) b ∙ ap (g k) (to_on m f k a b) ∙ e k b p a
+        ]
 
 -- ---- two layouts apart
 
@@ -304,13 +308,13 @@ Apart {n = n} {m = m} L M = (i j : ℕ) → i < n → j < m → Four (L.left i) 
 
 module _ {first n second m : ℕ} (L : Layout first n) (M : Layout second m) where
   -- where the one ends before the other begins
-  pub apart_before : first + 2 * n ≤ second → Apart L M
-  apart_before behind i j p q =
+  pub apart_before : SidesApart L → SidesApart M → first + 2 * n ≤ second → Apart L M
+  apart_before D E behind i j p q =
       record {
-        xu = below (L.left i) (M.left j) (L.left_in i p).1 (M.left_in j q).0;
-        xv = below (L.left i) (M.right j) (L.left_in i p).1 (M.right_in j q).0;
-        yu = below (L.right i) (M.left j) (L.right_in i p).1 (M.left_in j q).0;
-        yv = below (L.right i) (M.right j) (L.right_in i p).1 (M.right_in j q).0;
+        xu = below (L.left i) (M.left j) (D.left_in i p).1 (E.left_in j q).0;
+        xv = below (L.left i) (M.right j) (D.left_in i p).1 (E.right_in j q).0;
+        yu = below (L.right i) (M.left j) (D.right_in i p).1 (E.left_in j q).0;
+        yv = below (L.right i) (M.right j) (D.right_in i p).1 (E.right_in j q).0;
       }
     where
       below : (x y : ℕ) → x < first + 2 * n → second ≤ y → x ≢ y
@@ -360,9 +364,9 @@ module _ {first n second m : ℕ} (L : Layout first n) (M : Layout second m) (d 
 
 -- ---- a buffer of zeros
 
-pub silent_at : {first n : ℕ} (L : Layout first n) (m i : ℕ) → i < n → first + 2 * n ≤ m → frame_at L (replicate m zero_sample) i ≡ zero_frame
+pub silent_at : {first n : ℕ} (L : Layout first n) → SidesApart L → (m i : ℕ) → i < n → first + 2 * n ≤ m → frame_at L (replicate m zero_sample) i ≡ zero_frame
 unfolding frame_at pair
-silent_at {first} {n} L m i p h =
+silent_at {first} {n} L D m i p h =
     ap₂ pair
-    (get_or-replicate m (L.left i) zero_sample nan (below_far (L.left i) (first + 2 * n) m (L.left_in i p).1 h))
-    (get_or-replicate m (L.right i) zero_sample nan (below_far (L.right i) (first + 2 * n) m (L.right_in i p).1 h))
+    (get_or-replicate m (L.left i) zero_sample nan (below_far (L.left i) (first + 2 * n) m (D.left_in i p).1 h))
+    (get_or-replicate m (L.right i) zero_sample nan (below_far (L.right i) (first + 2 * n) m (D.right_in i p).1 h))

@@ -12,6 +12,7 @@ use lib.Ieee.{Float}
 use Rattle.laws.proofs.laws.FloatRound.{below_or_not}
 use Rattle.frame.specs.declared.frame.Frame.{Frame}
 use Rattle.frame.specs.Layout.{Layout, interleaved, scratch, frame_at, with_frames, SameFrames, SameParts}
+use Rattle.frame.proofs.laws.Places.{SidesApart, interleaved_apart, scratch_apart}
 use Rattle.frame.proofs.laws.Layout.{Step, first_at, first_across, Apart, apart_before, apart_swap}
 
 -- a part ends before the next begins
@@ -23,8 +24,8 @@ part_ends s t width n h r = fits (s * width) (t * width) (suc s * width) (suc-mu
 
 module _ {n : ℕ} (f g : Step) (agree : (i : ℕ) → i < n → (a : Frame) → f i a ≡ g i a) (l m : List Float) where
   -- the part that is stepped on
-  same_own : {first : ℕ} (L M : Layout first n) → first + 2 * n ≤ length l → first + 2 * n ≤ length m → SameFrames L M l m → SameFrames L M (with_frames L f l) (with_frames M g m)
-  same_own L M x y same i b = first_at L f n l i (le_refl n) x b ∙ ap (f i) (same i b) ∙ agree i b (frame_at M m i) ∙ sym (first_at M g n m i (le_refl n) y b)
+  same_own : {first : ℕ} (L M : Layout first n) → SidesApart L → SidesApart M → first + 2 * n ≤ length l → first + 2 * n ≤ length m → SameFrames L M l m → SameFrames L M (with_frames L f l) (with_frames M g m)
+  same_own L M D E x y same i b = first_at L D f n l i (le_refl n) x b ∙ ap (f i) (same i b) ∙ agree i b (frame_at M m i) ∙ sym (first_at M E g n m i (le_refl n) y b)
 
   -- another
   same_other : {first second : ℕ} (L M : Layout first n) (L' M' : Layout second n) → Apart L L' → Apart M M' → SameFrames L M l m → SameFrames L M (with_frames L' f l) (with_frames M' g m)
@@ -37,17 +38,23 @@ turns width n k = interleaved (k * width) n
 abbrev apart : (width n k : ℕ) → Layout (k * width) n
 apart width n k = scratch (k * width) n
 
+abbrev turns_apart : (width n k : ℕ) → SidesApart (turns width n k)
+turns_apart width n k = interleaved_apart (k * width) n
+
+abbrev apart_apart : (width n k : ℕ) → SidesApart (apart width n k)
+apart_apart width n k = scratch_apart (k * width) n
+
 pub same_step : (parts width n t : ℕ) (f g : Step) (l m : List Float) → 2 * n ≤ width → parts * width ≤ length l → parts * width ≤ length m → ((i : ℕ) → i < n → (a : Frame) → f i a ≡ g i a) → SameParts parts width n l m → SameParts parts width n (with_frames (interleaved (t * width) n) f l) (with_frames (scratch (t * width) n) g m)
 same_step parts width n t f g l m r x y agree same s q = elim (below_or_not s t) [
-  | inl h ↦ same_other f g agree l m (turns width n s) (apart width n s) (turns width n t) (apart width n t) (apart_before (turns width n s) (turns width n t) (part_ends s t width n h r)) (apart_before (apart width n s) (apart width n t) (part_ends s t width n h r)) (same s q)
+  | inl h ↦ same_other f g agree l m (turns width n s) (apart width n s) (turns width n t) (apart width n t) (apart_before (turns width n s) (turns width n t) (turns_apart width n s) (turns_apart width n t) (part_ends s t width n h r)) (apart_before (apart width n s) (apart width n t) (apart_apart width n s) (apart_apart width n t) (part_ends s t width n h r)) (same s q)
   | inr h ↦ elim (eq-or-lt_of_le h) [
     | inl e ↦
         subst (λ (k : ℕ). SameFrames (turns width n s) (apart width n s) (with_frames (turns width n k) f l) (with_frames (apart width n k) g m)) (sym e)
-        (same_own f g agree l m (turns width n s) (apart width n s) (le_trans (part_ends s parts width n q r) x) (le_trans (part_ends s parts width n q r) y) (same s q))
+        (same_own f g agree l m (turns width n s) (apart width n s) (turns_apart width n s) (apart_apart width n s) (le_trans (part_ends s parts width n q r) x) (le_trans (part_ends s parts width n q r) y) (same s q))
     | inr b ↦
         same_other f g agree l m (turns width n s) (apart width n s) (turns width n t) (apart width n t)
-        (apart_swap (turns width n t) (turns width n s) (apart_before (turns width n t) (turns width n s) (part_ends t s width n b r)))
-        (apart_swap (apart width n t) (apart width n s) (apart_before (apart width n t) (apart width n s) (part_ends t s width n b r)))
+        (apart_swap (turns width n t) (turns width n s) (apart_before (turns width n t) (turns width n s) (turns_apart width n t) (turns_apart width n s) (part_ends t s width n b r)))
+        (apart_swap (apart width n t) (apart width n s) (apart_before (apart width n t) (apart width n s) (apart_apart width n t) (apart_apart width n s) (part_ends t s width n b r)))
         (same s q)
   ]
 ]

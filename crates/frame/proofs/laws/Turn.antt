@@ -14,6 +14,7 @@ use Rattle.laws.specs.Loop.{upto, downto}
 use Rattle.laws.proofs.laws.Loop.{downto_turn, downto_end, upto_turn, upto_end}
 use Rattle.frame.specs.declared.frame.Frame.{Frame}
 use Rattle.frame.specs.Layout.{Layout, with_frames}
+use Rattle.frame.proofs.laws.Places.{SidesApart}
 use Rattle.frame.proofs.laws.Layout.{first_length, first_same, first_twice}
 
 -- a way to take a step on each frame of a buffer that has at least so much room
@@ -23,12 +24,12 @@ pub record Steps (I : Type 0) (with : (I → Frame → Frame) → List Float →
   pub twice : (f g : I → Frame → Frame) (l : List Float) → room ≤ length l → with g (with f l) ≡ with (λ i a. g i (f i a)) l
 
 -- the frames of a layout
-pub frames_steps : {first n : ℕ} (L : Layout first n) → Steps ℕ (with_frames L) (first + 2 * n)
-frames_steps {first} {n} L =
+pub frames_steps : {first n : ℕ} (L : Layout first n) → SidesApart L → Steps ℕ (with_frames L) (first + 2 * n)
+frames_steps {first} {n} L D =
     record {
       long = λ f l. first_length L f n l;
       same = λ l. first_same L (λ i a. a) n l (λ k p a. refl);
-      twice = λ f g l r. first_twice L f g n l (le_refl n) r;
+      twice = λ f g l r. first_twice L D f g n l (le_refl n) r;
     }
 
 module _ {I : Type 0} (with : (I → Frame → Frame) → List Float → List Float) where

@@ -10,6 +10,7 @@ use Rattle.laws.proofs.laws.Choice.{picks_lt}
 use Rattle.frame.specs.declared.frame.Frame.{Frame}
 use Rattle.frame.specs.Frame.{zero_frame, added, sample_frame}
 use Rattle.frame.specs.Layout.{scratch, with_frames}
+use Rattle.frame.proofs.laws.Places.{scratch_apart}
 use Rattle.frame.proofs.laws.Layout.{Step, first_cong, first_length, first_twice}
 use Rattle.sound.specs.Part.{part_frame, added_part}
 
@@ -41,5 +42,5 @@ module _ (first second : List Float) (n : ℕ) (l : List Float) where
       e
       ∙ first_cong L (λ i a. f i (both_played first second i a)) (λ i a. f i (both i a)) n l
       (λ k h a. ap (f k) (both_play first second k a (lt_of_lt_of_le h p) (lt_of_lt_of_le h q)))
-      ∙ sym (first_twice L both f n l (le_refl n) (omega (arith, w)))
-      ∙ ap (with_frames L f) (sym (first_twice L (added_part first) (added_part second) n l (le_refl n) (omega (arith, w))))
+      ∙ sym (first_twice L (scratch_apart 0 n) both f n l (le_refl n) (omega (arith, w)))
+      ∙ ap (with_frames L f) (sym (first_twice L (scratch_apart 0 n) (added_part first) (added_part second) n l (le_refl n) (omega (arith, w))))

@@ -25,6 +25,7 @@ use Rattle.frame.specs.declared.frame.Frame.{Frame}
 use Rattle.chunk.specs.declared.chunk.Chunk.{Chunk}
 use Rattle.frame.specs.Frame.{clamped}
 use Rattle.frame.specs.Layout.{scratch, frame_at, with_frames}
+use Rattle.frame.proofs.laws.Places.{scratch_apart}
 use Rattle.frame.proofs.laws.Layout.{first_at}
 use Rattle.track.specs.Mix.{mixed_frame, mixed_set}
 use Rattle.mixer.specs.declared.mixer.Mixer.{Mixer}
@@ -111,4 +112,4 @@ mix_written channels n chunk samples mix₀ {mix} frames long q =
     pieces_cong (frame_piece channels (frame_at (scratch 0 n) mix)) (λ i. channels_of channels (clamped (mixed_frame chunk samples i))) n
     (λ i l. ap (λ (a : Frame). channels_of channels (clamped a))
     (ap (λ (x : List Float). frame_at (scratch 0 n) x i) (q ∙ ap (λ (j : ℕ). with_frames (scratch 0 j) (mixed_set chunk samples) mix₀) frames)
-    ∙ first_at (scratch 0 n) (mixed_set chunk samples) n mix₀ i (le_refl n) (omega (arith, long)) l))
+    ∙ first_at (scratch 0 n) (scratch_apart 0 n) (mixed_set chunk samples) n mix₀ i (le_refl n) (omega (arith, long)) l))

@@ -17,6 +17,7 @@ use Rattle.laws.proofs.laws.Loop.{upto-suc, upto_cong, upto_zero, upto_turn}
 use Rattle.frame.specs.declared.frame.Frame.{Frame}
 use Rattle.frame.specs.Frame.{zero_frame, cleared}
 use Rattle.frame.specs.Layout.{frame_at, with_frames}
+use Rattle.frame.proofs.laws.Places.{SidesApart, scratch_apart}
 use Rattle.frame.proofs.laws.Layout.{Step, first_length, first_at, first_cong, first_same, first_held, first_twice, first_across, first_either, Apart, apart_before, apart_swap}
 use Rattle.frame.proofs.laws.Turn.{Steps}
 use Rattle.send_track.specs.Send.{send_part, send_places, send_layout, on_sends, cleared_sends}
@@ -24,6 +25,10 @@ use Rattle.send_track.specs.Send.{send_part, send_places, send_layout, on_sends,
 -- a step on each send track's frames
 abbrev pub SendStep : Type 0
 SendStep = ℕ → ℕ → Frame → Frame
+
+-- no two sides of a send track's frames stand in one place
+abbrev send_apart : (s n : ℕ) → SidesApart (send_layout s n)
+send_apart s n = scratch_apart (s * send_part) n
 
 -- on the first k send tracks
 abbrev part : ℕ → SendStep → ℕ → List Float → List Float
@@ -73,7 +78,7 @@ module _ (n : ℕ) where
 module _ (n : ℕ) (short : n ≤ chunk_frames_most) where
   -- two parts
   part_after : (s t : ℕ) → s < t → Apart (send_layout s n) (send_layout t n)
-  part_after s t h = apart_before (send_layout s n) (send_layout t n) (omega (arith, short, h))
+  part_after s t h = apart_before (send_layout s n) (send_layout t n) (send_apart s n) (send_apart t n) (omega (arith, short, h))
 
   parts_apart : (s t : ℕ) → s < t → Apart (send_layout t n) (send_layout s n)
   parts_apart s t h = apart_swap (send_layout s n) (send_layout t n) (part_after s t h)
@@ -98,7 +103,7 @@ module _ (n : ℕ) (short : n ≤ chunk_frames_most) where
       upto-suc (part n g) k (upto (part n f) (suc k) l)
       ∙ ap (λ (x : List Float). part n g k (upto (part n g) k x)) (upto-suc (part n f) k l)
       ∙ ap (part n g k) (part_through f g k k old (le_refl k) ∙ ap (part n f k) (parts_twice f g k l (le_trans (le-suc k) w) r))
-      ∙ first_twice (send_layout k n) (f (suc k)) (g (suc k)) n (upto (part n h) k l) (le_refl n) (room k (length (upto (part n h) k l)) w (subst (λ (m : ℕ). send_places ≤ m) (sym (parts_length n h k l)) r))
+      ∙ first_twice (send_layout k n) (send_apart k n) (f (suc k)) (g (suc k)) n (upto (part n h) k l) (le_refl n) (room k (length (upto (part n h) k l)) w (subst (λ (m : ℕ). send_places ≤ m) (sym (parts_length n h k l)) r))
       ∙ sym (upto-suc (part n h) k l)
 
   pub on_sends_twice : (f g : SendStep) (l : List Float) → send_places ≤ length l → on_sends n g (on_sends n f l) ≡ on_sends n (λ s i a. g s i (f s i a)) l
@@ -129,7 +134,7 @@ module _ (n : ℕ) (short : n ≤ chunk_frames_most) where
       ∙ elim (eq-or-lt_of_le (le_of_suc-le-suc h)) [
         | inl e ↦
             subst (λ (t : ℕ). frame_at (send_layout s n) (part n f t old) i ≡ f (suc s) i (frame_at (send_layout s n) l i)) e
-            (first_at (send_layout s n) (f (suc s)) n old i (le_refl n) (room s (length old) (le_trans h w) (subst (λ (m : ℕ). send_places ≤ m) (sym (parts_length n f k l)) r)) p
+            (first_at (send_layout s n) (send_apart s n) (f (suc s)) n old i (le_refl n) (room s (length old) (le_trans h w) (subst (λ (m : ℕ). send_places ≤ m) (sym (parts_length n f k l)) r)) p
             ∙ ap (f (suc s) i) (parts_from f k s i l (reach k s e) p))
         | inr b ↦
             first_across (send_layout s n) (send_layout k n) (part_after s k b) (f (suc k)) n old i (le_refl n) p

@@ -13,6 +13,7 @@ use Rattle.frame.specs.declared.frame.Frame.{Frame}
 use Rattle.chunk.specs.declared.chunk.ChunkSound.{ChunkSound}
 use Rattle.frame.specs.Frame.{zero_frame, added, sample_frame, from_frame}
 use Rattle.frame.specs.Layout.{scratch, with_first, with_frames}
+use Rattle.frame.proofs.laws.Places.{scratch_apart}
 use Rattle.frame.proofs.laws.Layout.{first_cong, first_rest}
 use Rattle.laws.proofs.laws.Choice.{picks_lt, leaves_lt}
 use Rattle.sound.specs.Part.{remaining_part, part_frame, added_part, added_zero}
@@ -76,4 +77,4 @@ module _ (part : List Float) (n : ℕ) where
   part_ends l w h p e =
       e
       ∙ ap (with_frames (scratch 0 n) (from_frame (length part / 2) added_zero)) p
-      ∙ first_rest (scratch 0 n) (added_part part) added_zero (length part / 2) l h (omega (arith, w)) (λ k q _ a. part_silent k a q)
+      ∙ first_rest (scratch 0 n) (scratch_apart 0 n) (added_part part) added_zero (length part / 2) l h (omega (arith, w)) (λ k q _ a. part_silent k a q)

@@ -19,6 +19,7 @@ use Rattle.track_sounds.specs.Sound.{with_sounds}
 use Rattle.send_track.specs.Send.{send_frame, level_scaled, added_send, send_places, send_layout, on_sends, cleared_sends}
 use Rattle.track.specs.Sub.{with_sub_sends}
 use Rattle.track.specs.Mix.{send_input, tracks_frame, mixed_frame, tracks_set, with_send_tracks, mixed_set}
+use Rattle.frame.proofs.laws.Places.{scratch_apart}
 use Rattle.frame.proofs.laws.Layout.{Step, first_cong, first_twice}
 use Rattle.send_track.proofs.laws.Send.{SendStep, on_sends_at, cleared_length, cleared_at}
 use Rattle.track.proofs.laws.Sub.{sub_sum}
@@ -27,7 +28,7 @@ pub tracks_mixed : (c : Chunk) (samples : Recordings) (l : List Float) {last : L
 unfolding tracks_set tracks_frame
 tracks_mixed c samples l w e =
     let n = c.frames in
-    e ∙ first_twice (scratch 0 n) cleared (sub_sum track_depth c samples 0) n l (le_refl n) (omega (arith, w))
+    e ∙ first_twice (scratch 0 n) (scratch_apart 0 n) cleared (sub_sum track_depth c samples 0) n l (le_refl n) (omega (arith, w))
     ∙ first_cong (scratch 0 n) (λ i a. sub_sum track_depth c samples 0 i zero_frame) (tracks_set c samples) n l (λ k p a. refl)
 
 -- the send tracks' inputs are made in a room whose used parts are cleared first
@@ -51,8 +52,8 @@ module _ (c : Chunk) (samples : Recordings) (room : List Float) {inputs : List F
       let v : Step = with_sounds c samples 0 in
       let w : Step = level_scaled c.main n in
       et
-      ∙ ap (with_frames L w) (dt ∙ ap (with_frames L v) (bt ∙ ap (with_frames L u) at ∙ first_twice L t u n l (le_refl n) (omega (arith, long))) ∙ first_twice L (λ i x. u i (t i x)) v n l (le_refl n) (omega (arith, long)))
-      ∙ first_twice L (λ i x. v i (u i (t i x))) w n l (le_refl n) (omega (arith, long))
+      ∙ ap (with_frames L w) (dt ∙ ap (with_frames L v) (bt ∙ ap (with_frames L u) at ∙ first_twice L (scratch_apart 0 n) t u n l (le_refl n) (omega (arith, long))) ∙ first_twice L (scratch_apart 0 n) (λ i x. u i (t i x)) v n l (le_refl n) (omega (arith, long)))
+      ∙ first_twice L (scratch_apart 0 n) (λ i x. v i (u i (t i x))) w n l (le_refl n) (omega (arith, long))
       ∙ first_cong L (λ i x. w i (v i (u i (t i x)))) (mixed_set c samples) n l
       (λ k p x. ap (λ (f : Frame). scaled (with_sounds c samples 0 k f) (level_amplitude c.main (amount_at k n)))
       (downto_cong (λ s y. added_send (send_row c s) n (frame_at (send_layout s n) inputs) k y) (λ s y. added y (send_frame (send_row c s) n k (send_input c samples (suc s) k))) c.send_count (tracks_frame c samples k)

@@ -21,6 +21,7 @@ use Rattle.frame.specs.Frame.{zero_frame, added, scaled, added_from, cleared, ze
 use Rattle.frame.specs.Layout.{scratch, frame_at, with_frames}
 use Rattle.chunk.specs.Chunk.{amount_at, track_amplitude, track_row}
 use Rattle.track.specs.Sub.{placed, track_frame, track_sum}
+use Rattle.frame.proofs.laws.Places.{scratch_apart}
 use Rattle.frame.proofs.laws.Layout.{first_at, silent_at}
 use Rattle.frame.specs.Running.{Both, Running, AllRunning, AllZero}
 
@@ -79,14 +80,14 @@ track_fits (suc d) c samples line i =
 -- ---- buffers
 
 pub zero_silent : (m n : ℕ) → 2 * n ≤ m → AllZero n (replicate m zero_sample)
-zero_silent m n h i p = silent_at (scratch 0 n) m i p (omega arith)
+zero_silent m n h i p = silent_at (scratch 0 n) (scratch_apart 0 n) m i p (omega arith)
 
 pub running_silent : (n : ℕ) (l : List Float) → AllZero n l → AllRunning n l
 running_silent n l z i p = subst (Both Running) (sym (z i p)) running_zero
 
 module _ (n : ℕ) (l : List Float) {last : List Float} (long : 2 * n ≤ length l) where
   after : (f : ℕ → Frame → Frame) (i : ℕ) → i < n → last ≡ with_frames (scratch 0 n) f l → frame_at (scratch 0 n) last i ≡ f i (frame_at (scratch 0 n) l i)
-  after f i p e = ap (λ (r : List Float). frame_at (scratch 0 n) r i) e ∙ first_at (scratch 0 n) f n l i (le_refl n) (omega (arith, long)) p
+  after f i p e = ap (λ (r : List Float). frame_at (scratch 0 n) r i) e ∙ first_at (scratch 0 n) (scratch_apart 0 n) f n l i (le_refl n) (omega (arith, long)) p
 
   pub running_cleared : last ≡ with_frames (scratch 0 n) cleared l → AllRunning n last
   running_cleared e i p = subst (Both Running) (sym (after cleared i p e)) running_zero

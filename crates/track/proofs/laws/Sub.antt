@@ -24,6 +24,7 @@ use Rattle.chunk.specs.Chunk.{amount_at, track_amplitude, route_row, track_row}
 use Rattle.track_sounds.specs.Sound.{with_sounds}
 use Rattle.send_track.specs.Send.{send_places, send_layout, on_sends}
 use Rattle.track.specs.Sub.{over_sub_tracks, sum_over, track_sum, track_frame, with_routes, with_track_sends, with_sub_sends, placed, sum_set, track_placed, track_scaled, track_placed_scaled, with_routes_from}
+use Rattle.frame.proofs.laws.Places.{scratch_apart}
 use Rattle.frame.proofs.laws.Layout.{Step, first_at, first_cong, first_cong_at, first_held, first_twice}
 use Rattle.frame.proofs.laws.Turn.{step_picked}
 use Rattle.track.proofs.laws.Running.{zeros, absorbed}
@@ -113,8 +114,8 @@ sum_gathered d c samples line l w zero a e =
     let s : Step = with_sounds c samples line in
     e
     ∙ ap (with_frames L s) a
-    ∙ first_twice L u s n l (le_refl n) (omega (arith, w))
-    ∙ first_cong_at L (λ k x. s k (u k x)) (sum_set d c samples line) n l (le_refl n) (λ k p. ap (λ (x : Frame). s k (u k x)) (zero k p))
+    ∙ first_twice L (scratch_apart 0 n) u s n l (le_refl n) (omega (arith, w))
+    ∙ first_cong_at L (scratch_apart 0 n) (λ k x. s k (u k x)) (sum_set d c samples line) n l (le_refl n) (λ k p. ap (λ (x : Frame). s k (u k x)) (zero k p))
 
 -- the buffer has the track's frames
 abbrev pub HasTrack : ℕ → Chunk → Recordings → ℕ → List Float → Type 0
@@ -136,8 +137,8 @@ module _ (depth d : ℕ) (c : Chunk) (samples : Recordings) (line : ℕ) (deep :
       let track = track_row c (line - 1) in
       let u : Step = sum_set d c samples line in
       let v : Step = track_placed_scaled track n in
-      ap (λ (r : List Float). frame_at L r i) (e ∙ ap (with_frames L v) a ∙ first_twice L u v n l (le_refl n) (omega (arith, w)))
-      ∙ first_at L (λ k x. v k (u k x)) n l i (le_refl n) (omega (arith, w)) p
+      ap (λ (r : List Float). frame_at L r i) (e ∙ ap (with_frames L v) a ∙ first_twice L (scratch_apart 0 n) u v n l (le_refl n) (omega (arith, w)))
+      ∙ first_at L (scratch_apart 0 n) (λ k x. v k (u k x)) n l i (le_refl n) (omega (arith, w)) p
       ∙ sym (cond-true track.advancing (scaled (placed track.placing (track_sum d c samples line i)) (track_amplitude track (amount_at i n))) zero_frame moves)
       ∙ ap (λ (z : ℕ). track_frame z c samples line i) (sym deep)
 

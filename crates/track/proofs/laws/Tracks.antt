@@ -13,6 +13,7 @@ use Rattle.links.specs.Links.{owners, lines, last_line, line_before}
 use Rattle.frame.specs.Frame.{added_from}
 use Rattle.frame.specs.Layout.{scratch, with_frames}
 use Rattle.frame.specs.Running.{AllRunning}
+use Rattle.frame.proofs.laws.Places.{scratch_apart}
 use Rattle.frame.proofs.laws.Turn.{frames_steps}
 use Rattle.chunk.specs.declared.chunk.Chunk.{Chunk}
 use Rattle.chunk.specs.Chunk.{ChunkOk, track_row}
@@ -69,6 +70,6 @@ module _ {c : Chunk} {samples : Recordings} (ok : ChunkOk c samples) (d line : �
 
     pub tracks_end : 2 * c.frames ≤ length sum₀ → length sends₀ ≡ send_places → j ≡ 0 → (sum ≡ with_frames (scratch 0 c.frames) (sub_sum d c samples line) sum₀) × (sends ≡ on_sends c.frames (with_sub_sends d c samples line) sends₀)
     tracks_end long whole none = (
-      follow_done (with_frames (scratch 0 c.frames)) (sub_step d c samples line) c.track_count (used_parent c f.linked.used) line sum₀ (frames_steps (scratch 0 c.frames)) (omega (arith, long)) none f.summed ∙ sub_done d c samples line sum₀,
+      follow_done (with_frames (scratch 0 c.frames)) (sub_step d c samples line) c.track_count (used_parent c f.linked.used) line sum₀ (frames_steps (scratch 0 c.frames) (scratch_apart 0 c.frames)) (omega (arith, long)) none f.summed ∙ sub_done d c samples line sum₀,
       follow_done (all_sends c.frames) (sub_send d c samples line) c.track_count (used_parent c f.linked.used) line sends₀ (sends_steps c.frames ok.short) (omega (arith, whole)) none f.sent ∙ send_done d c samples line sends₀,
     )

@@ -15,6 +15,7 @@ use Rattle.laws.proofs.laws.Choice.{picks_lt, leaves_lt}
 use Rattle.laws.proofs.laws.FloatRound.{below_or_not}
 use Rattle.frame.specs.Frame.{zero_frame, added, sample_frame}
 use Rattle.frame.specs.Layout.{scratch, with_frames}
+use Rattle.frame.proofs.laws.Places.{scratch_apart}
 use Rattle.frame.proofs.laws.Layout.{Step, first_cong}
 use Rattle.frame.proofs.laws.Turn.{frames_steps, step_picked, step_left}
 use Rattle.chunk.specs.declared.chunk.Chunk.{Chunk}
@@ -61,7 +62,7 @@ SoundsLeft c samples line begun now k = Follows (with_frames (scratch 0 c.frames
 
 module _ (c : Chunk) (samples : Recordings) (ok : ChunkOk c samples) (line : ℕ) (begun : List Float) {links : List ℕ} (few : line ≤ track_places) (linked : links ≡ sound_links c) where
   sounds_skip : (x : List Float) → Skips (with_frames (scratch 0 c.frames)) (sound_step c samples line) c.sound_count (sound_owner c) line begun x
-  sounds_skip x k b d = step_left (with_frames (scratch 0 c.frames)) (sound_row c k).track line (added_sound samples (sound_row c k)) x (frames_steps (scratch 0 c.frames)) d
+  sounds_skip x k b d = step_left (with_frames (scratch 0 c.frames)) (sound_row c k).track line (added_sound samples (sound_row c k)) x (frames_steps (scratch 0 c.frames) (scratch_apart 0 c.frames)) d
 
   pub sounds_begin : {k : ℕ} → k ≡ last_line links line → SoundsLeft c samples line begun begun k
   unfolding sound_links
@@ -82,4 +83,4 @@ module _ (c : Chunk) (samples : Recordings) (ok : ChunkOk c samples) (line : ℕ
 
   pub sounds_end : {k : ℕ} {now : List Float} → 2 * c.frames ≤ length begun → k ≡ 0 → SoundsLeft c samples line begun now k → now ≡ with_frames (scratch 0 c.frames) (with_sounds c samples line) begun
   unfolding with_sounds
-  sounds_end long none f = follow_done (with_frames (scratch 0 c.frames)) (sound_step c samples line) c.sound_count (sound_owner c) line begun (frames_steps (scratch 0 c.frames)) (omega (arith, long)) none f
+  sounds_end long none f = follow_done (with_frames (scratch 0 c.frames)) (sound_step c samples line) c.sound_count (sound_owner c) line begun (frames_steps (scratch 0 c.frames) (scratch_apart 0 c.frames)) (omega (arith, long)) none f

@@ -14,6 +14,7 @@ use Rattle.spatial.specs.Spatial.{factor}
 use Rattle.chunk.specs.declared.chunk.ChunkTrack.{ChunkTrack}
 use Rattle.frame.specs.Frame.{cleared, scaled_by}
 use Rattle.frame.specs.Layout.{scratch, with_frames}
+use Rattle.frame.proofs.laws.Places.{scratch_apart}
 use Rattle.frame.proofs.laws.Layout.{first_held, first_twice}
 use Rattle.track_volume.specs.TrackVolume.{placed, track_placed, track_scaled, track_placed_scaled}
 
@@ -39,4 +40,4 @@ module _ (n : ℕ) (l : List Float) where
   unfolding track_placed_scaled
   placed_scaled t w a e =
       let L = scratch 0 n in
-      e ∙ ap (with_frames L (track_scaled t n)) a ∙ first_twice L (track_placed t.placing) (track_scaled t n) n l (le_refl n) (omega (arith, w))
+      e ∙ ap (with_frames L (track_scaled t n)) a ∙ first_twice L (scratch_apart 0 n) (track_placed t.placing) (track_scaled t n) n l (le_refl n) (omega (arith, w))

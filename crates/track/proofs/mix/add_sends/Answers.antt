@@ -9,6 +9,7 @@ use Rattle.frame.specs.Layout.{scratch, frame_at, with_frames}
 use Rattle.chunk.specs.Chunk.{LevelInRange}
 use Rattle.chunk.specs.Flat.{chunk_from}
 use Rattle.track.specs.Mix.{with_send_tracks}
+use Rattle.frame.proofs.laws.Places.{scratch_apart}
 use Rattle.frame.proofs.laws.Turn.{frames_steps, turns, turn_length, down_turn, down_done}
 use Rattle.send_track.specs.Send.{added_send, send_layout}
 use Rattle.track.proofs.mix.add_sends.Invariants.{step, none_yet, before_it, after_it}
@@ -57,7 +58,7 @@ loop-done-preserved c =
     ∙ ap (λ (j : ℕ). with_frames L (g j) c.loop-done.out) (before_it count done) in (
       refl,
       omega (arith, h),
-      turn_length (with_frames L) (frames_steps L) (g (count - done - 1)) c.args.out.now c.loop-done.out c.loop-done.invariant.2 e,
+      turn_length (with_frames L) (frames_steps L (scratch_apart 0 chunk.frames)) (g (count - done - 1)) c.args.out.now c.loop-done.out c.loop-done.invariant.2 e,
       ap (λ (j : ℕ). downto (turns (with_frames L) g) j last) (after_it count done) ∙ down_turn (with_frames L) g c.args.out.now c.loop-done.out (count - done) (omega (arith, h)) c.loop-done.invariant.3 e,
     )
 
@@ -66,4 +67,4 @@ unfolding with_send_tracks
 returns c =
     let chunk = chunk_from c.args.places.now c.args.levels.now c.args.amplitudes.now in
     let L = scratch 0 chunk.frames in
-    down_done (with_frames L) (frames_steps L) (step chunk c.args.sends.now) chunk.send_count c.args.out.now (omega (arith, c.requires.room_for_frames)) (omega (arith, c.loop-done-test.false)) c.loop-done.invariant.3
+    down_done (with_frames L) (frames_steps L (scratch_apart 0 chunk.frames)) (step chunk c.args.sends.now) chunk.send_count c.args.out.now (omega (arith, c.requires.room_for_frames)) (omega (arith, c.loop-done-test.false)) c.loop-done.invariant.3

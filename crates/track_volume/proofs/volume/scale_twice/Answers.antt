@@ -6,6 +6,7 @@ use borrow.Author.Rules.{rules}
 use Rattle.frame.specs.declared.frame.Frame.{Frame}
 use Rattle.frame.specs.Frame.{scaled_by, scaled}
 use Rattle.frame.specs.Layout.{scratch}
+use Rattle.frame.proofs.laws.Places.{scratch_apart}
 use Rattle.frame.proofs.laws.Layout.{first_zero, first_put, first_end, first_twice}
 use Rattle.track_volume.proofs.volume.scale_twice.Goals as goal
 
@@ -25,4 +26,4 @@ pub returns : goal.returns
 returns c =
     let L = scratch 0 c.args.frames in
     first_end L (λ k a. scaled_by c.args.then k (scaled_by c.args.first k a)) c.args.out.now (omega (arith, c.loop-i-test.false, c.loop-i.invariant.0)) c.loop-i.invariant.2
-    ∙ sym (first_twice L (scaled_by c.args.first) (scaled_by c.args.then) c.args.frames c.args.out.now (le_refl c.args.frames) (omega (arith, c.requires)))
+    ∙ sym (first_twice L (scratch_apart 0 c.args.frames) (scaled_by c.args.first) (scaled_by c.args.then) c.args.frames c.args.out.now (le_refl c.args.frames) (omega (arith, c.requires)))
