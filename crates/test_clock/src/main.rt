@@ -51,8 +51,8 @@ fn run_rows(list: List, text: &[u8]) -> Tally {
 fn run_list<R: Files + Eprint + Print>(
     rt: &R,
     list: List,
-    name: &str,
-    path: &str,
+    name: &[u8],
+    path: &[u8],
 ) -> io::Result<()> {
     let mut buffer = test_replay::short_buffer();
     let n = test_replay::read(rt, path, &mut buffer);
@@ -61,6 +61,6 @@ fn run_list<R: Files + Eprint + Print>(
 }
 
 fn main(rt: HostRuntime) -> io::Result<()> {
-    run_list(&rt, List::Clock, "clock", "clock.txt")?;
-    run_list(&rt, List::WhenToStart, "when_to_start", "when_to_start.txt")
+    run_list(&rt, List::Clock, b"clock", b"clock.txt")?;
+    run_list(&rt, List::WhenToStart, b"when_to_start", b"when_to_start.txt")
 }

@@ -34,7 +34,7 @@ fn run_rows(text: &[u8]) -> Tally {
 
 fn main(rt: HostRuntime) -> io::Result<()> {
     let mut buffer = test_replay::short_buffer();
-    let n = test_replay::read(&rt, "parameter.txt", &mut buffer);
+    let n = test_replay::read(&rt, b"parameter.txt", &mut buffer);
     let tally = run_rows(&buffer[..n]);
-    test_replay::report(&rt, "parameter", tally.checked, tally.wrong)
+    test_replay::report(&rt, b"parameter", tally.checked, tally.wrong)
 }

@@ -26,10 +26,15 @@ pub fn case_buffer() -> [u8; 65536]
 }
 
 // Reads a list to the start of the buffer, and answers how many bytes it has. A file that does not
-// open has none, and one that is too long is cut: either shows in the report's count.
-pub fn read<R: Files + Eprint>(rt: &R, path: &str, buffer: &mut [u8]) -> usize
+// open has none, and one that is too long is cut: either shows in the report's count. Files are
+// opened by names that are text, so a path that is none does not open.
+pub fn read<R: Files + Eprint>(rt: &R, path: &[u8], buffer: &mut [u8]) -> usize
     ensures { (result ≤ length buffer.new) × (result ≡ length (take result buffer.new)) }
 {
+    let Ok(path) = str::from_utf8(path) else {
+        let _ = eprintln!(rt; "a path is not text");
+        return 0;
+    };
     match first_bytes::read_file(rt, path, buffer) {
         Ok(n) => n,
         Err(error) => {
@@ -40,6 +45,7 @@ pub fn read<R: Files + Eprint>(rt: &R, path: &str, buffer: &mut [u8]) -> usize
 }
 
 // One line: `NAME CHECKED checked WRONG wrong`.
-pub fn report<R: Print>(rt: &R, name: &str, checked: u64, wrong: u64) -> io::Result<()> {
-    println!(rt; "{name} {checked} checked {wrong} wrong")
+pub fn report<R: Print>(rt: &R, name: &[u8], checked: u64, wrong: u64) -> io::Result<()> {
+    rt.write_all(name)?;
+    println!(rt; " {checked} checked {wrong} wrong")
 }

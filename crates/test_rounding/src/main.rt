@@ -101,8 +101,8 @@ fn run_rows(list: List, text: &[u8]) -> Tally {
 fn run_list<R: Files + Eprint + Print>(
     rt: &R,
     list: List,
-    name: &str,
-    path: &str,
+    name: &[u8],
+    path: &[u8],
 ) -> io::Result<()> {
     let mut buffer = test_replay::buffer();
     let n = test_replay::read(rt, path, &mut buffer);
@@ -111,7 +111,7 @@ fn run_list<R: Files + Eprint + Print>(
 }
 
 fn main(rt: HostRuntime) -> io::Result<()> {
-    run_list(&rt, List::Rounding, "rounding", "rounding.txt")?;
-    run_list(&rt, List::Nanoseconds, "nanoseconds", "nanoseconds.txt")?;
-    run_list(&rt, List::Seconds, "seconds", "seconds.txt")
+    run_list(&rt, List::Rounding, b"rounding", b"rounding.txt")?;
+    run_list(&rt, List::Nanoseconds, b"nanoseconds", b"nanoseconds.txt")?;
+    run_list(&rt, List::Seconds, b"seconds", b"seconds.txt")
 }

@@ -133,7 +133,7 @@ fn run_rows(text: &[u8]) -> Tally {
 
 fn main(rt: HostRuntime) -> io::Result<()> {
     let mut buffer = test_replay::short_buffer();
-    let n = test_replay::read(&rt, "attenuation.txt", &mut buffer);
+    let n = test_replay::read(&rt, b"attenuation.txt", &mut buffer);
     let tally = run_rows(&buffer[..n]);
-    test_replay::report(&rt, "attenuation", tally.checked, tally.wrong)
+    test_replay::report(&rt, b"attenuation", tally.checked, tally.wrong)
 }

@@ -94,8 +94,8 @@ fn run_rows(list: List, text: &[u8]) -> Tally {
 fn run_list<R: Files + Eprint + Print>(
     rt: &R,
     list: List,
-    name: &str,
-    path: &str,
+    name: &[u8],
+    path: &[u8],
 ) -> io::Result<()> {
     let mut buffer = test_replay::short_buffer();
     let n = test_replay::read(rt, path, &mut buffer);
@@ -104,11 +104,11 @@ fn run_list<R: Files + Eprint + Print>(
 }
 
 fn main(rt: HostRuntime) -> io::Result<()> {
-    run_list(&rt, List::Easing, "easing", "easing.txt")?;
+    run_list(&rt, List::Easing, b"easing", b"easing.txt")?;
     run_list(
         &rt,
         List::Interpolation,
-        "interpolation",
-        "interpolation.txt",
+        b"interpolation",
+        b"interpolation.txt",
     )
 }
