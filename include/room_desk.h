@@ -1,7 +1,7 @@
 /* room_desk.h: the proved mixer Room Desk Two, for C (C99 on) and C++.
  *
  * One archive has every routine: `rust/archive` writes target/product/libroom_desk.a
- * (x86-64 Linux). Nothing else is linked but memcpy and memset:
+ * (x86-64 Linux). Nothing else is linked but memcpy, memset and memmove:
  *
  *     cc -std=c99 -I include show.c target/product/libroom_desk.a
  *
