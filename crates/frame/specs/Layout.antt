@@ -1,5 +1,5 @@
 -- Buffers of frames. A buffer is a list of numbers, and a layout says where in it frames stand. Everything above speaks of frames, and not of places.
-use Rattle.std.specs.Prelude.{◌≡◌, List, ℕ, ◌+◌, ◌*◌, ◌<◌, get_or, set, Float}
+use Rattle.std.specs.Prelude.{◌≡◌, ◌≢◌, List, ℕ, ◌+◌, ◌*◌, ◌≤◌, ◌<◌, get_or, set, Float}
 use Rattle.std.specs.Float.{nan}
 use Rattle.laws.specs.Loop.{upto}
 use Rattle.frame.specs.declared.frame.Frame.{Frame}
@@ -24,6 +24,14 @@ planar first n =
       left = λ i. first + i;
       right = λ i. first + n + i;
     }
+
+-- The sides stand within those places, and no two sides in one place: both layouts keep to it (proofs/laws/Places).
+pub record SidesApart {first n : ℕ} (L : Layout first n) : Type 0 where
+  pub left_in : (i : ℕ) → i < n → (first ≤ L.left i) × (L.left i < first + 2 * n)
+  pub right_in : (i : ℕ) → i < n → (first ≤ L.right i) × (L.right i < first + 2 * n)
+  pub lefts : (i j : ℕ) → i < n → j < n → i ≢ j → L.left i ≢ L.left j
+  pub rights : (i j : ℕ) → i < n → j < n → i ≢ j → L.right i ≢ L.right j
+  pub apart : (i j : ℕ) → i < n → j < n → L.left i ≢ L.right j
 
 -- the layout of what tracks and send tracks are mixed in
 abbrev pub scratch : (first n : ℕ) → Layout first n

@@ -20,8 +20,7 @@ use Rattle.laws.proofs.laws.FloatRound.{below_or_not}
 use Rattle.laws.proofs.laws.Loop.{upto_zero, upto-suc, upto_turn, upto_cong}
 use Rattle.frame.specs.declared.frame.Frame.{Frame}
 use Rattle.frame.specs.Frame.{zero_frame, zero_sample, from_frame}
-use Rattle.frame.specs.Layout.{Layout, frame_at, put_frame, with_first, with_frames}
-use Rattle.frame.proofs.laws.Places.{SidesApart}
+use Rattle.frame.specs.Layout.{Layout, frame_at, put_frame, with_first, with_frames, SidesApart}
 
 -- a step on frames by their number
 abbrev pub Step : Type 0

@@ -11,8 +11,8 @@ use lib.ListN.{length}
 use lib.Ieee.{Float}
 use Rattle.laws.proofs.laws.FloatRound.{below_or_not}
 use Rattle.frame.specs.declared.frame.Frame.{Frame}
-use Rattle.frame.specs.Layout.{Layout, interleaved, scratch, frame_at, with_frames, SameFrames, SameParts}
-use Rattle.frame.proofs.laws.Places.{SidesApart, interleaved_apart, scratch_apart}
+use Rattle.frame.specs.Layout.{Layout, interleaved, scratch, frame_at, with_frames, SameFrames, SameParts, SidesApart}
+use Rattle.frame.proofs.laws.Places.{interleaved_apart, scratch_apart}
 use Rattle.frame.proofs.laws.Layout.{Step, first_at, first_across, Apart, apart_before, apart_swap}
 
 -- a part ends before the next begins

@@ -13,8 +13,7 @@ use lib.Ieee.{Float}
 use Rattle.laws.specs.Loop.{upto, downto}
 use Rattle.laws.proofs.laws.Loop.{downto_turn, downto_end, upto_turn, upto_end}
 use Rattle.frame.specs.declared.frame.Frame.{Frame}
-use Rattle.frame.specs.Layout.{Layout, with_frames}
-use Rattle.frame.proofs.laws.Places.{SidesApart}
+use Rattle.frame.specs.Layout.{Layout, with_frames, SidesApart}
 use Rattle.frame.proofs.laws.Layout.{first_length, first_same, first_twice}
 
 -- a way to take a step on each frame of a buffer that has at least so much room

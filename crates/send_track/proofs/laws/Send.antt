@@ -16,8 +16,8 @@ use Rattle.laws.proofs.laws.Choice.{picks_eq, leaves_eq}
 use Rattle.laws.proofs.laws.Loop.{upto-suc, upto_cong, upto_zero, upto_turn}
 use Rattle.frame.specs.declared.frame.Frame.{Frame}
 use Rattle.frame.specs.Frame.{zero_frame, cleared}
-use Rattle.frame.specs.Layout.{frame_at, with_frames}
-use Rattle.frame.proofs.laws.Places.{SidesApart, scratch_apart}
+use Rattle.frame.specs.Layout.{frame_at, with_frames, SidesApart}
+use Rattle.frame.proofs.laws.Places.{scratch_apart}
 use Rattle.frame.proofs.laws.Layout.{Step, first_length, first_at, first_cong, first_same, first_held, first_twice, first_across, first_either, Apart, apart_before, apart_swap}
 use Rattle.frame.proofs.laws.Turn.{Steps}
 use Rattle.send_track.specs.Send.{send_part, send_places, send_layout, on_sends, cleared_sends}
