@@ -62,5 +62,10 @@ fn run_list<R: Files + Eprint + Print>(
 
 fn main(rt: HostRuntime) -> io::Result<()> {
     run_list(&rt, List::Clock, b"clock", b"clock.txt")?;
-    run_list(&rt, List::WhenToStart, b"when_to_start", b"when_to_start.txt")
+    run_list(
+        &rt,
+        List::WhenToStart,
+        b"when_to_start",
+        b"when_to_start.txt",
+    )
 }
