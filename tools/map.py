@@ -18,7 +18,8 @@ for line in (ROOT / "docs/MAP.md").read_text().split("\n"):
         if not file.exists() or not re.search(form.format(re.escape(name)), file.read_text(), re.M):
             missing.append(cell)
     proof = ROOT / "crates" / cells[3]
-    if cells[3] != "–" and not (proof / "Proof.antt").exists() and not proof.is_file():
+    found = any((proof / name).exists() for name in ("Invariants.antt", "Answers.antt")) or proof.is_file()
+    if cells[3] != "–" and not found:
         missing.append(cells[3])
 for item in missing:
     print("not there:", item)
