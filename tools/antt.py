@@ -10,6 +10,8 @@ WORD = re.compile(r"«[^»]*»|[^\s(){};,.«»\"]+")
 SIGNATURE = re.compile(
     r"^(\s*)((?:(?:unfoldable|abbrev|pub|record|data)\s+)*)([^\s:(){}]+)((?:\s+(?:\{[^}]*\}|\((?:[^()]|\([^()]*\))*\)))*)\s+:(?=\s|$)"
 )
+# The files of a function's proof.
+OF_FUNCTIONS = {"Answers", "Invariants", "Proof"}
 USE = re.compile(r"^(pub )?use ([^\s{]+?)(?:\.\{([^}]*)\})?(?: as (\S+))?$")
 
 
@@ -165,7 +167,7 @@ class Graph:
 
     def theorem(self, crate, name):
         """What a theorem's statement speaks of."""
-        keys = [key for key in self.blocks if key[0] == crate and key[3].replace("-", "_") == name.replace("-", "_") and key[1] == "proofs"]
+        keys = [key for key in self.blocks if key[0] == crate and key[3] == name and key[1] == "proofs"]
         if len(keys) != 1:
             raise SystemExit(f"no theorem {name} in crate {crate}, or two")
         block = self.blocks[keys[0]]

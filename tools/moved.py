@@ -14,7 +14,7 @@ import tarfile
 import tempfile
 import io
 
-from antt import Graph, functions
+from antt import OF_FUNCTIONS, Graph, functions
 
 KINDS = ["definitions", "contracts", "laws", "proofs of functions"]
 
@@ -27,11 +27,11 @@ def things(root):
         text = "\n".join(block.text())
         if kind == "specs":
             out["definitions"][name].append((crate, "/".join(module), text))
-        elif "Proof" not in module:
+        elif not OF_FUNCTIONS & set(module):
             out["laws"][name].append((crate, "/".join(module), text))
     for file in graph.files.values():
         crate, kind, module = file.place
-        if kind == "proofs" and "Proof" in module:
+        if kind == "proofs" and OF_FUNCTIONS & set(module):
             text = "\n".join(line for block in file.blocks for line in block.text())
             out["proofs of functions"]["::".join(module[:-1])].append((crate, "/".join(module), text))
     for function in functions(root):

@@ -6,7 +6,7 @@ use.
 """
 import sys
 
-from antt import Graph, contract, functions
+from antt import OF_FUNCTIONS, Graph, contract, functions
 from definitions import ROOT, THEOREMS
 
 # controls and examples: each is a computed test of definitions, which nothing cites
@@ -15,16 +15,16 @@ TESTS = [
     ("rounding", "nanos"),
     ("rounding", "seconds"),
     ("root", "roots"),
-    ("pcm", "minus-zero-lost"),
-    ("pcm", "one-lost"),
+    ("pcm", "minus_zero_lost"),
+    ("pcm", "one_lost"),
     ("order_lines", "cases"),
     ("noninterference", "example"),
-    ("noninterference", "same-mix"),
-    ("noninterference", "alike-example"),
-    ("noninterference", "accepted-example"),
-    ("noninterference", "left-example"),
+    ("noninterference", "same_mix"),
+    ("noninterference", "alike_example"),
+    ("noninterference", "accepted_example"),
+    ("noninterference", "left_example"),
     ("pause_end", "once"),
-    ("pause_end", "uneven-late"),
+    ("pause_end", "uneven_late"),
 ]
 
 
@@ -35,7 +35,7 @@ def main():
         key, statement = graph.theorem(crate, name)
         roots |= {key} | statement
     for key in graph.blocks:
-        if {"Proof", "Answers", "Invariants"} & set(key[2]) or (key[0], key[3].replace("_", "-")) in TESTS:
+        if OF_FUNCTIONS & set(key[2]) or (key[0], key[3]) in TESTS:
             roots.add(key)
     live = graph.closure(roots, strict=False)
     rows = [f"{graph.blocks[key].file.path.relative_to(ROOT)}: {key[3]}" for key in sorted(graph.blocks) if key not in live]
