@@ -8,6 +8,7 @@ The pairs are those of oracle/scripts/pairs.py, small ones of the seeds below: a
 each kind, in which one rule is broken. `stored()` gives them to tools/render_vectors.py, so that their outputs are run too.
 """
 import pathlib
+import re
 import sys
 
 ROOT = pathlib.Path(__file__).resolve().parent.parent
@@ -150,7 +151,7 @@ def listed(items):
 
 
 def raised(n):
-    return f"raised {n}" if n >= 0 else f"raisedMinus {-n}"
+    return f"raised {n}" if n >= 0 else f"raised_minus {-n}"
 
 
 def table(lines):
@@ -165,19 +166,18 @@ def side(scene, chosen):
 
 
 def named(name):
-    parts = name.replace("-", " ").split()
-    return parts[0] + "".join(p.capitalize() for p in parts[1:])
+    return re.sub(r"-(?=\d)", "", name).replace("-", "_")
 
 
 def text(found, controls):
     out = [
         "-- Stored pairs of scenes, made by tools/alike_pairs.py: alike ones, and control pairs in which one rule is broken.",
-        "use mathlib.Core.List.{List, [], _∷_}",
-        "use Rattle·test_alike_pairs·specs.specs.Side.{Pair}",
-        "use Rattle·scene_tables.specs.Tables.{raised, raisedMinus}",
+        "use Rattle.std.specs.Prelude.{List, [], ◌∷◌}",
+        "use Rattle.test_alike_pairs.specs.Side.{Pair}",
+        "use Rattle.scene_tables.specs.Tables.{raised, raised_minus}",
         "",
     ]
-    for names, group in (("alikePairs", found), ("controlPairs", controls)):
+    for names, group in (("alike_pairs", found), ("control_pairs", controls)):
         for name, pair in group:
             sides = [side(s, c) for s, c in zip(pair.scenes, pair.chosen)]
             out += [f"abbrev pub {named(name)} : Pair", f"{named(name)} =", f"    record {{", f"      one = {sides[0]};", f"      other = {sides[1]};", "    }", ""]
@@ -188,10 +188,8 @@ def text(found, controls):
 CLAIM = """-- `alike` says yes of each stored pair that is alike, and no of each control pair; made by tools/alike_pairs.py. A pair has a declaration of its own, since
 -- what one declaration may compute is limited.
 """
-EACH_OF = CLAIM + """use mathlib.Core.Bool.{Bool}
-use mathlib.Core.List.{List, [], _∷_}
-use lib.Dec.{T}
-use Rattle·test_alike_pairs·specs.specs.Side.{Pair}
+EACH_OF = CLAIM + """use Rattle.std.specs.Prelude.{Bool, List, [], ◌∷◌, T}
+use Rattle.test_alike_pairs.specs.Side.{Pair}
 
 -- every pair of a list
 abbrev pub Each : (Pair → Bool) → List Pair → Type 0
@@ -200,38 +198,38 @@ Each f (p ∷ l) = T (f p) × Each f l
 """
 HEAD = CLAIM + """use mathlib.Core.Bool.{not}
 use lib.Dec.{T}
-use lib.Ieee.{toBits, ofBits}
-use Rattle·recordings.specs.Recordings.{recording}
-use Rattle·laws.specs.Loop.{upto, changed}
-use Rattle·laws.specs.Kept.{rank, keptOf}
-use Rattle·scene_tables.specs.Bytes.{every}
-use Rattle·scene_questions.specs.Questions.{parentOf}
-use Rattle·noninterference.specs.Removed.{newLine, insideWithin, inside, removedTrack, namesRemoved, removedRoute, removedSound, removedPlacing, removedOrder, leftTables, renumbered, renumberedOrder, linesLeft}
-use Rattle·noninterference.specs.Silent.{silentVolume, names, muted, held, pausesOrResumes, isHolding}
-use Rattle·noninterference.specs.Alike.{same, unplaced, sameTables, chosenLeft, framesLeft, sameBits, silentChoice, alike}
-use Rattle·test_alike_pairs·specs.specs.Side.{choiceOf, alikePair}
-use Rattle·test_alike_pairs·specs.specs.Pairs.{PAIRS}
-use Rattle·test_alike_pairs·specs.specs.Computed.{Each}
+use lib.Ieee.{to_bits, of_bits}
+use Rattle.recordings.specs.Recordings.{recording}
+use Rattle.laws.specs.Loop.{upto, changed}
+use Rattle.laws.specs.Kept.{rank, kept_of}
+use Rattle.scene_tables.specs.Bytes.{every}
+use Rattle.scene_questions.specs.Questions.{parent_of}
+use Rattle.noninterference.specs.Removed.{new_line, inside_within, inside, removed_track, names_removed, removed_route, removed_sound, removed_placing, removed_order, left_tables, renumbered, renumbered_order, lines_left}
+use Rattle.noninterference.specs.Silent.{silent_volume, names, muted, held, pauses_or_resumes, is_holding}
+use Rattle.noninterference.specs.Alike.{same, unplaced, same_tables, chosen_left, frames_left, same_bits, silent_choice, alike}
+use Rattle.test_alike_pairs.specs.Side.{choice_of, alike_pair}
+use Rattle.test_alike_pairs.specs.Pairs.{PAIRS}
+use Rattle.test_alike_pairs.specs.Computed.{Each}
 """
 UNFOLDED = (
-    "alikePair choiceOf recording alike sameTables same unplaced chosenLeft framesLeft sameBits silentChoice toBits ofBits leftTables linesLeft keptOf changed "
-    "renumbered renumberedOrder newLine rank insideWithin inside removedTrack removedRoute removedSound removedPlacing removedOrder namesRemoved parentOf muted silentVolume names "
-    "held pausesOrResumes isHolding every upto"
+    "alike_pair choice_of recording alike same_tables same unplaced chosen_left frames_left same_bits silent_choice to_bits of_bits left_tables "
+    "lines_left kept_of changed renumbered renumbered_order new_line rank inside_within inside removed_track removed_route removed_sound "
+    "removed_placing removed_order names_removed parent_of muted silent_volume names held pauses_or_resumes is_holding every upto"
 )
 
 
 def computed(found, controls):
-    all_names = [named(name) for name, _ in found + controls] + ["alikePairs", "controlPairs"]
+    all_names = [named(name) for name, _ in found + controls] + ["alike_pairs", "control_pairs"]
     out = [HEAD.replace("PAIRS", ", ".join(all_names))]
-    for group, claim, suffix in ((found, "alikePair {}", "alike"), (controls, "not (alikePair {})", "not")):
+    for group, claim, suffix in ((found, "alike_pair {}", "_alike"), (controls, "not (alike_pair {})", "-not")):
         for name, _ in group:
-            own = f"{named(name)}-{suffix}"
+            own = f"{named(name)}{suffix}"
             out.append(f"{own} : T ({claim.format(named(name))})\nunfolding {UNFOLDED}\n{own} = tt\n")
     for name, test, group, suffix, pairs_name in (
-        ("all-alike", "alikePair", found, "alike", "alikePairs"),
-        ("no-control", "(λ p. not (alikePair p))", controls, "not", "controlPairs"),
+        ("all_alike", "alike_pair", found, "_alike", "alike_pairs"),
+        ("no_control", "(λ p. not (alike_pair p))", controls, "-not", "control_pairs"),
     ):
-        proofs = ", (".join(f"{named(n)}-{suffix}" for n, _ in group)
+        proofs = ", (".join(f"{named(n)}{suffix}" for n, _ in group)
         out.append(f"pub {name} : Each {test} {pairs_name}\n{name} = ({proofs}, tt{')' * len(group)}\n")
     return "\n".join(out)
 
