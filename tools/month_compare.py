@@ -4,7 +4,7 @@ that is a sample longer, and months from seeds.
 
     tools/month_compare.py PROGRAM [--seed N] [--months N] [--pipes N]
 
-PROGRAM is target/bin/month_report. Of the months from seeds the first `--pipes` are given as named pipes into which a thread writes a few bytes at
+PROGRAM is crates/month_report/out/month_report. Of the months from seeds the first `--pipes` are given as named pipes into which a thread writes a few bytes at
 a time, so that numbers are cut between reads. Exit status 1 where anything differs; the first folder that does is kept in target/differs.
 """
 import argparse
@@ -110,7 +110,7 @@ def main():
             differ += 1
             print(f"{name}: expected {expected!r}, found {answer!r}")
             if not (ROOT / "target/differs").exists():
-                (ROOT / "target/differs").mkdir()
+                (ROOT / "target/differs").mkdir(parents=True)
                 through_files(program, ROOT / "target/differs", text, files)
                 (ROOT / "target/differs/stdin").write_bytes(text)
     listed = ", ".join(f"{n}: {numbers[n]}" for n in sorted(numbers))

@@ -1,7 +1,7 @@
 #!/usr/bin/env python3
 """Runs what docs/SCENE.md and docs/REFUSALS.md show, and says where a page is not true. Exit status 1 where one is not.
 
-    tools/pages.py PROGRAM ORACLE     the compiled render program (target/bin/render), and the oracle for numbers 10 and 11
+    tools/pages.py PROGRAM ORACLE     the compiled render program (crates/render/out/render), and the oracle for numbers 10 and 11
 
 Of SCENE.md: each whole scene is accepted; the first prints what stands below it, and the others have the levels of their tables.
 Of REFUSALS.md: each example gets the number that it stands under.

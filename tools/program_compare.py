@@ -3,7 +3,7 @@
 
     tools/program_compare.py ORACLE PROGRAM [--seed N] [--scenes N] [--damaged N] [--pairs N]
 
-ORACLE is oracle/target/release/oracle, PROGRAM target/bin/render. Each case of oracle/scripts/cases.py becomes a folder with scene.txt,
+ORACLE is oracle/target/release/oracle, PROGRAM crates/render/out/render. Each case of oracle/scripts/cases.py becomes a folder with scene.txt,
 samples.raw and visitor.raw; a file without bytes is left out in every second folder, since one that won't open counts as empty. The oracle writes what the
 program must print (`oracle folders`), the program is run in the folder. Of a pair the two texts must be equal to each other too. Exit status 1
 where anything differs; the first folder that does is kept in target/differs.
