@@ -1,10 +1,11 @@
 #!/usr/bin/env python3
 """Two gates side by side: tools/turns.py CLONE LATER_CLONE [SECONDS].
 
-Runs the `.ci/run` of two clean clones in turns of so many seconds (20), the one frozen while the other runs: the
-machine's speed changes by half within minutes, and so both meet the same. A gate's time is the sum of its own turns,
-its processor time that of its control group. What it prints goes to CLONE.log; the seconds that rt prints there count
-the other's turns too. Needs root, and control groups of version 1 (freezer, cpuacct)."""
+Runs `rt ci --anew` in two clean clones in turns of so many seconds (20), the one frozen while the other runs: the
+machine's speed changes by half within minutes, and so both meet the same. It is not `.ci/run`, where the second would
+take what the first kept, and wait for crates that the first, frozen, has begun. A gate's time is the sum of its own
+turns, its processor time that of its control group. What it prints goes to CLONE.log. Needs root, and control groups of
+version 1 (freezer, cpuacct)."""
 import os
 import signal
 import subprocess
@@ -39,8 +40,9 @@ class Gate:
 
     def start(self):
         environment = {k: v for k, v in os.environ.items() if k not in ("TMPDIR", "RT_JOBS")}
+        environment["PATH"] += ":/opt/rattle/bin"
         self.process = subprocess.Popen(
-            ["bash", ".ci/run"], cwd=self.clone, stdin=subprocess.DEVNULL, stdout=open(f"{self.clone}.log", "w"),
+            ["rt", "ci", "--anew"], cwd=self.clone, stdin=subprocess.DEVNULL, stdout=open(f"{self.clone}.log", "w"),
             stderr=subprocess.STDOUT, env={**environment, "CI": "true"}, preexec_fn=self.join, start_new_session=True)
 
     def turn(self, seconds):
