@@ -1,7 +1,6 @@
 use Rattle.std.proofs.Common.{◌≡◌, ℕ, ◌-◌, ◌≤◌, List, get_or, replicate}
 use Rattle.limits.specs.Limits.{clock_lines}
 use Rattle.laws.specs.Loop.{changed}
-use Rattle.clock.specs.declared.clock_time.ClockTime as time
 use Rattle.clock.specs.declared.clock.Clock.{Clock}
 use Rattle.clock.specs.Clock.{ticks_of}
 use Rattle.clock.specs.WhenToStart.{absent_clock}
