@@ -213,3 +213,15 @@ def contract(graph, function):
     found = words(code("\n".join(function.clauses)))
     means = {name: graph.follow(*target) for name, target in function.uses.items()}
     return set(graph.used(means, found).values())
+
+
+def attributed(root):
+    """The laws and definitions that functions' attributes name, as #[tactic(auto, using(..), unfolding(..))] does."""
+    out = set()
+    for path in sorted((pathlib.Path(root) / "crates").glob("*/src/**/*.rt")):
+        crate = path.relative_to(pathlib.Path(root) / "crates").parts[0]
+        for found in re.finditer(r"#\[tactic\(([^\]]*)\)\]", path.read_text()):
+            for name in re.findall(r"[\w:]+::(?:specs|proofs)::[\w:-]+", found[1]):
+                parts = name.split("::")
+                out.add((crate if parts[0] == "crate" else parts[0], parts[1], tuple(parts[2:-1]), parts[-1]))
+    return out

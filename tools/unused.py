@@ -6,7 +6,7 @@ use.
 """
 import sys
 
-from antt import OF_FUNCTIONS, Graph, contract, functions
+from antt import OF_FUNCTIONS, Graph, attributed, contract, functions
 from definitions import ROOT, THEOREMS
 
 # controls and examples: each is a computed test of definitions, which nothing cites
@@ -31,6 +31,7 @@ TESTS = [
 def main():
     graph = Graph(ROOT)
     roots = {key for function in functions(ROOT) for key in contract(graph, function)}
+    roots |= attributed(ROOT)
     for crate, name in THEOREMS:
         key, statement = graph.theorem(crate, name)
         roots |= {key} | statement
