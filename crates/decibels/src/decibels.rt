@@ -15,12 +15,6 @@ pub struct Decibels(pub f32);
 #[derive(Clone, Copy)]
 pub struct Amplitude(pub f32);
 
-#[derive(Clone, Copy)]
-pub enum AmplitudeAnswer {
-    Given(Amplitude),
-    Refused,
-}
-
 // The largest number of decibels that has an amplitude.
 pub const LIMIT: f32 = 23.0;
 
@@ -36,15 +30,16 @@ pub struct Position {
 }
 
 impl Decibels {
-    pub fn as_amplitude(self) -> AmplitudeAnswer
+    // Nothing of a NaN, and of what is above the limit.
+    pub fn as_amplitude(self) -> Option<Amplitude>
         ensures { answered result ≡ amplitude_answer self.0 }
     {
         let n = self.0;
         if n <= LIMIT {
             let table = gain_table();
-            AmplitudeAnswer::Given(self.as_amplitude_in(&table))
+            Some(self.as_amplitude_in(&table))
         } else {
-            AmplitudeAnswer::Refused
+            None
         }
     }
 

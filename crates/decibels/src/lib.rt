@@ -4,5 +4,5 @@
 mod decibels;
 mod write;
 
-pub use decibels::{Amplitude, AmplitudeAnswer, Decibels, LIMIT, Position, SILENCE, position_of};
+pub use decibels::{Amplitude, Decibels, LIMIT, Position, SILENCE, position_of};
 pub use write::write_amplitude;

@@ -2,19 +2,18 @@
 ghost use Rattle.std.specs.Prelude.{◌≡◌};
 ghost use Rattle.decibels.specs.Answer.{amplitude_answer, written_over};
 
-use crate::decibels::{AmplitudeAnswer, Decibels};
+use crate::decibels::Decibels;
 
 // Returns 0 and writes the amplitude, or returns 11 and leaves what was there.
 pub fn write_amplitude(decibels: f32, amplitude: &mut f32) -> u32
     ensures number { result ≡ (amplitude_answer decibels).number }
     ensures written { amplitude.new ≡ written_over (amplitude_answer decibels).value amplitude.old }
 {
-    let answer = Decibels(decibels).as_amplitude();
-    match answer {
-        AmplitudeAnswer::Given(a) => {
-            *amplitude = a.0;
+    match Decibels(decibels).as_amplitude() {
+        Some(given) => {
+            *amplitude = given.0;
             0
         }
-        AmplitudeAnswer::Refused => 11,
+        None => 11,
     }
 }

@@ -35,10 +35,7 @@ fn value_by(before: Decibels, after: Decibels, part: f32) -> Decibels
 fn holds_both(segment: Segment, start: Decibels, end: Decibels) -> bool
     ensures { result ≡ (contains segment start.0 && contains segment end.0) }
 {
-    if segment.holds(start) {
-        return segment.holds(end);
-    }
-    false
+    segment.holds(start) && segment.holds(end)
 }
 
 // The factors of frames from `first` up to `to` that all lie inside the segment.
@@ -56,12 +53,10 @@ fn set_inside(
     requires values_in_segment { (i : ℕ) → first ≤ i → i < to → T (contains segment (value_at before after parts.now i)) }
     ensures { factors.new ≡ with_run before after parts.now first to factors.old }
 {
-    let mut i = first;
-    while i < to {
+    for i in first..to {
         let value = value_by(before, after, parts[i]);
         let amplitude = segment.amplitude_of(value);
         factors[i] = amplitude.0;
-        i += 1;
     }
 }
 
@@ -97,12 +92,10 @@ fn set_each(
     requires admitted { (i : ℕ) → i < to → T (admitted (value_at before after parts.now i)) }
     ensures { factors.new ≡ with_run before after parts.now first to factors.old }
 {
-    let mut i = first;
-    while i < to {
+    for i in first..to {
         let value = value_by(before, after, parts[i]);
         let amplitude = value.as_amplitude_in(table);
         factors[i] = amplitude.0;
-        i += 1;
     }
 }
 
@@ -160,10 +153,7 @@ fn run_end(first: usize, frames: usize) -> usize
     requires { (first < frames) × (frames ≤ chunk_frames_most) }
     ensures { (first < result) × (result ≤ frames) }
 {
-    if RUN < frames - first {
-        return first + RUN;
-    }
-    frames
+    frames.min(first + RUN)
 }
 
 // The frames of a chunk, run by run.

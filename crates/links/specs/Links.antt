@@ -1,5 +1,5 @@
 -- Lines by their owner. Lines are counted from 1, and 0 is none.
-use Rattle.std.specs.Prelude.{cond, List, ℕ, suc, ◌+◌, ◌-◌, ltb, get_or, set, replicate}
+use Rattle.std.specs.Prelude.{◌≡◌, cond, List, ℕ, suc, ◌+◌, ◌-◌, ◌<◌, ltb, get_or, set, replicate}
 use Rattle.limits.specs.Limits.{track_places, sound_lines}
 use Rattle.laws.specs.Loop.{upto}
 
@@ -19,17 +19,13 @@ linked owner k l = cond (ltb (owner k) owners) (set (set l (owners + k) (get_or 
 unfoldable pub links_of : (ℕ → ℕ) → ℕ → List ℕ
 links_of owner n = upto (linked owner) n (replicate (owners + lines) 0)
 
+-- what a call may make of line k + 1, one of the first n, is its owner by f
+abbrev pub OwnerIs : (n : ℕ) → (ℕ → ℕ → Type 0) → (ℕ → ℕ) → Type 0
+OwnerIs n made f = (k o : ℕ) → k < n → made k o → o ≡ f k
+
 -- the two answers
 abbrev pub last_line : List ℕ → ℕ → ℕ
 last_line links owner = get_or links owner 0
 
 abbrev pub line_before : List ℕ → ℕ → ℕ
 line_before links line = get_or links (owners + (line - 1)) 0
-
--- a column of owners in an array, from a place on
-abbrev pub column_from : List ℕ → ℕ → ℕ → ℕ
-column_from column first k = get_or column (first + k) 0
-
--- the same with its n lines counted from the end
-abbrev pub column_back : List ℕ → ℕ → ℕ → ℕ → ℕ
-column_back column first n k = get_or column (first + (n - (k + 1))) 0

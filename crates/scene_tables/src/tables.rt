@@ -12,7 +12,7 @@ use limits::{
 };
 
 // The rule of one field. Numbers are raised by 2^31.
-#[derive(Clone, Copy)]
+#[derive(Clone, Copy, PartialEq, Eq, Debug)]
 pub enum Field {
     // A number from the first to the second, both included.
     Number(u32, u32),
@@ -25,7 +25,7 @@ pub enum Field {
 }
 
 // The rule of a line as a whole.
-#[derive(Clone, Copy)]
+#[derive(Clone, Copy, PartialEq, Eq, Debug)]
 pub enum LineRule {
     Plain,
     Speed,

@@ -10,17 +10,15 @@ pub const STEPS_32: usize = 9;
 
 pub const STEPS_64: usize = 19;
 
+#[tactic(auto, using(laws::proofs::laws::Pieces::part_put), unfolding(laws::specs::Pieces::put_at))]
 pub fn put_text(text: &mut [u8], at: usize, piece: &[u8]) -> usize
     requires { at + length piece.now ≤ length text.old }
     ensures place { result ≡ at + length piece.now }
     ensures text { text.new ≡ put_at at piece.now text.old }
 {
-    let mut i = 0;
-    while i < piece.len() {
-        text[at + i] = piece[i];
-        i += 1;
-    }
-    at + i
+    let end = at + piece.len();
+    text[at..end].copy_from_slice(piece);
+    end
 }
 
 fn digit(n: u64) -> u8

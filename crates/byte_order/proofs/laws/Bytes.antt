@@ -1,100 +1,16 @@
--- Numbers in bytes: by formulas for two and four bytes, where they stand in a longer list, and back from their bytes. Assumes nothing.
+-- Numbers in bytes: how many there are, and back from the bytes. Assumes nothing.
 use mathlib.Core.Path.{◌≡◌, refl, sym, ap, ap₂, ◌∙◌, subst}
 use mathlib.Core.List.{List, [], ◌∷◌, ◌++◌}
-use Prim.Native.Nat.{ℕ, zero, suc, ◌+◌, ◌*◌, ◌/◌, ◌%◌, ◌^◌, ◌<◌, ◌≤◌}
-use native.Mathlib.Nat.{add-zero, zero-add, add_comm, mul-pos, pow-suc, mod-eq_of_lt, mul_comm, le_trans, le-suc, le_refl, mod-one, div-one, div-div-eq-div-mul}
+use Prim.Native.Nat.{ℕ, zero, suc, ◌+◌, ◌*◌, ◌/◌, ◌%◌, ◌^◌, ◌<◌}
+use native.Mathlib.Nat.{zero-add, add_comm, mul-pos, pow-suc, mod-eq_of_lt, mul_comm, le_trans, le-suc, le_refl, mod-one}
 use native.Mathlib.Numerals.{add-one}
 use native.Mathlib.Omega.{arith}
 use lib.Arith.{mod-mul}
-use lib.ListN.{length, get_or, set, length-append, length-set, get_or-append}
+use lib.ListN.{length, get_or, length-append, get_or-append}
 use lib.Seq.{get_or-append_seam}
-use Rattle.laws.specs.Pieces.{put_at}
-use Rattle.laws.proofs.laws.Pieces.{set_put, put_turn}
 use Rattle.byte_order.specs.declared.bytes.ByteOrder.{ByteOrder}
 use Rattle.byte_order.specs.declared.bytes.ByteOrder.TheVariants.{Little, Big}
 use Rattle.byte_order.specs.Bytes.{number_at, bytes_of}
-
--- ---- by formulas
-
-module _ (bytes : List ℕ) (at : ℕ) where
-  first : get_or bytes (at + 0) 0 ≡ get_or bytes at 0
-  first = ap (λ (i : ℕ). get_or bytes i 0) (add-zero at)
-
-  pub little2_is : number_at Little bytes at 2 ≡ get_or bytes at 0 + get_or bytes (at + 1) 0 * 256
-  unfolding number_at
-  little2_is = omega (arith, first)
-
-  pub big2_is : number_at Big bytes at 2 ≡ get_or bytes at 0 * 256 + get_or bytes (at + 1) 0
-  unfolding number_at
-  big2_is = omega (arith, first)
-
-  pub little4_is : number_at Little bytes at 4 ≡ get_or bytes at 0 + get_or bytes (at + 1) 0 * 256 + get_or bytes (at + 2) 0 * 65536 + get_or bytes (at + 3) 0 * 16777216
-  unfolding number_at
-  little4_is = omega (arith, first)
-
-  pub big4_is : number_at Big bytes at 4 ≡ get_or bytes at 0 * 16777216 + get_or bytes (at + 1) 0 * 65536 + get_or bytes (at + 2) 0 * 256 + get_or bytes (at + 3) 0
-  unfolding number_at
-  big4_is = omega (arith, first)
-
--- ---- a number's bytes
-
-pub little2_bytes : (n : ℕ) → bytes_of Little 2 n ≡ n % 256 ∷ n / 256 % 256 ∷ []
-unfolding bytes_of
-little2_bytes n = ap (λ (x : ℕ). x % 256 ∷ n / 256 % 256 ∷ []) (div-one n)
-
-pub big2_bytes : (n : ℕ) → bytes_of Big 2 n ≡ n / 256 % 256 ∷ n % 256 ∷ []
-unfolding bytes_of
-big2_bytes n = refl
-
-pub little4_bytes : (n : ℕ) → n < 4294967296 → bytes_of Little 4 n ≡ n % 256 ∷ n / 256 % 256 ∷ n / 65536 % 256 ∷ n / 16777216 ∷ []
-unfolding bytes_of
-little4_bytes n h =
-    ap (λ (x : ℕ). x % 256 ∷ n / 256 % 256 ∷ n / 65536 % 256 ∷ n / 16777216 % 256 ∷ []) (div-one n)
-    ∙ ap (λ (x : ℕ). n % 256 ∷ n / 256 % 256 ∷ n / 65536 % 256 ∷ x ∷ []) (mod-eq_of_lt (omega arith))
-
-pub big4_bytes : (n : ℕ) → n < 4294967296 → bytes_of Big 4 n ≡ n / 16777216 ∷ n / 65536 % 256 ∷ n / 256 % 256 ∷ n % 256 ∷ []
-unfolding bytes_of
-big4_bytes n h =
-    ap (λ (x : ℕ). n / 256 / 256 / 256 % 256 ∷ x % 256 ∷ n / 256 % 256 ∷ n % 256 ∷ []) (div-div-eq-div-mul n 256 256)
-    ∙ ap (λ (x : ℕ). x ∷ n / 65536 % 256 ∷ n / 256 % 256 ∷ n % 256 ∷ []) (omega arith)
-
--- ---- the same in an order that was told
-
-module _ (bytes : List ℕ) (at n : ℕ) {order o : ByteOrder} {x : ℕ} where
-  pub in_order : order ≡ o → x ≡ number_at o bytes at n → x ≡ number_at order bytes at n
-  in_order e p = p ∙ ap (λ (i : ByteOrder). number_at i bytes at n) (sym e)
-
-module _ (bytes : List ℕ) (at n number : ℕ) {order o : ByteOrder} {p l : List ℕ} where
-  pub put_order : order ≡ o → bytes_of o n number ≡ p → l ≡ put_at at p bytes → l ≡ put_at at (bytes_of order n number) bytes
-  put_order e q h = h ∙ ap (λ (i : List ℕ). put_at at i bytes) (sym q ∙ ap (λ (i : ByteOrder). bytes_of i n number) (sym e))
-
--- ---- written one after the other
-
-module _ (l : List ℕ) (at a b : ℕ) (h : at + 2 ≤ length l) where
-  pub put2_is : set (set l at a) (at + 1) b ≡ put_at at (a ∷ b ∷ []) l
-  put2_is =
-      set_put (set l at a) (at + 1) b (omega (arith, length-set l at a))
-      ∙ put_turn at (a ∷ []) (b ∷ []) l (omega arith) (set_put l at a (omega arith)) refl
-
-module _ (l : List ℕ) (at a b c d : ℕ) (h : at + 4 ≤ length l) where
-  two : List ℕ
-  two = set (set l at a) (at + 1) b
-
-  length_two : length (set (set l at a) (at + 1) b) ≡ length l
-  length_two = length-set (set l at a) (at + 1) b ∙ length-set l at a
-
-  three : set (set (set l at a) (at + 1) b) (at + 2) c ≡ put_at at (a ∷ b ∷ c ∷ []) l
-  three =
-      set_put (set (set l at a) (at + 1) b) (at + 2) c (omega (arith, length_two))
-      ∙ put_turn at (a ∷ b ∷ []) (c ∷ []) l (omega arith) (put2_is l at a b (omega arith)) refl
-
-  length_three : length (set (set (set l at a) (at + 1) b) (at + 2) c) ≡ length l
-  length_three = length-set (set (set l at a) (at + 1) b) (at + 2) c ∙ length_two
-
-  pub put4_is : set (set (set (set l at a) (at + 1) b) (at + 2) c) (at + 3) d ≡ put_at at (a ∷ b ∷ c ∷ d ∷ []) l
-  put4_is =
-      set_put (set (set (set l at a) (at + 1) b) (at + 2) c) (at + 3) d (omega (arith, length_three))
-      ∙ put_turn at (a ∷ b ∷ c ∷ []) (d ∷ []) l (omega arith) three refl
 
 pub length_bytes : (order : ByteOrder) (n number : ℕ) → length (bytes_of order n number) ≡ n
 unfolding bytes_of

@@ -10,7 +10,7 @@ use lib.IntN.{ℤ, pos, negsuc}
 use lib.Dec.{T, ltb, eqb, le→leb, lt→ltb, nltb→le, eqb_refl, lit<, lit≤, T_not}
 use lib.Arith.{lt_of_le-ne}
 use lib.Pow.{pow_pos, pow-add, pow_mono, shl_lt}
-use lib.Ieee.{Float, nan, inf, fin, Format, binary32, binary64, low, up, down, unlike, round, sum, neg, add, sub, mul, lt, le, eq, fits, of_int, of_bits, is_nan, to_unsigned, in_float}
+use lib.Ieee.{Float, nan, inf, fin, Format, binary32, binary64, up, down, unlike, round, sum, neg, add, sub, mul, lt, le, eq, fits, of_int, of_bits, is_nan, to_unsigned, in_float}
 use lib.Ieee.Digits.{back}
 use lib.Ieee.Fits.{up_pos, down_pos}
 use lib.Ieee.Exact.{HasValue, round_exact}

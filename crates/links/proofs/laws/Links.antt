@@ -63,7 +63,7 @@ module _ (owner : ℕ → ℕ) where
   unfolding linked
   linked_on k l h = cond-true (ltb (owner k) owners) (set (set l (owners + k) (get_or l (owner k) 0)) (owner k) (suc k)) l (lt-ltb (owner k) owners h)
 
-  linked_off : (k : ℕ) (l : List ℕ) → owners ≤ owner k → linked owner k l ≡ l
+  pub linked_off : (k : ℕ) (l : List ℕ) → owners ≤ owner k → linked owner k l ≡ l
   unfolding linked
   linked_off k l h = cond-false (ltb (owner k) owners) (set (set l (owners + k) (get_or l (owner k) 0)) (owner k) (suc k)) l (le-ltb (owner k) owners h)
 
@@ -74,7 +74,7 @@ module _ (owner : ℕ → ℕ) where
   ]
 
   -- places other than the two that are written
-  linked_other : (k j : ℕ) (l : List ℕ) → (j ≡ owner k → owner k < owners → ⊥) → (j ≡ owners + k → ⊥) → get_or (linked owner k l) j 0 ≡ get_or l j 0
+  pub linked_other : (k j : ℕ) (l : List ℕ) → (j ≡ owner k → owner k < owners → ⊥) → (j ≡ owners + k → ⊥) → get_or (linked owner k l) j 0 ≡ get_or l j 0
   linked_other k j l d e = elim (dec_lt (owner k) owners) [
     | yes h ↦
         ap (λ (r : List ℕ). get_or r j 0) (linked_on k l h)
@@ -83,11 +83,11 @@ module _ (owner : ℕ → ℕ) where
     | no h ↦ ap (λ (r : List ℕ). get_or r j 0) (linked_off k l (omega (arith, h)))
   ]
 
-  links_zero : links_of owner 0 ≡ replicate (owners + lines) 0
+  pub links_zero : links_of owner 0 ≡ replicate (owners + lines) 0
   unfolding links_of
   links_zero = upto_zero (linked owner) (replicate (owners + lines) 0)
 
-  links_suc : (n : ℕ) → links_of owner (suc n) ≡ linked owner n (links_of owner n)
+  pub links_suc : (n : ℕ) → links_of owner (suc n) ≡ linked owner n (links_of owner n)
   unfolding links_of
   links_suc n = upto-suc (linked owner) n (replicate (owners + lines) 0)
 
@@ -102,7 +102,7 @@ module _ (owner : ℕ → ℕ) where
       ap (λ (r : List ℕ). get_or r (owner n) 0) (linked_on n l h)
       ∙ get_or-set_same (set l (owners + n) (get_or l (owner n) 0)) (owner n) (suc n) 0 (omega (arith, h, length-set l (owners + n) (get_or l (owner n) 0), links_length n))
 
-  line_place : (n : ℕ) → n < lines → owner n < owners → get_or (linked owner n (links_of owner n)) (owners + n) 0 ≡ get_or (links_of owner n) (owner n) 0
+  pub line_place : (n : ℕ) → n < lines → owner n < owners → get_or (linked owner n (links_of owner n)) (owners + n) 0 ≡ get_or (links_of owner n) (owner n) 0
   line_place n m h =
       let l = links_of owner n in
       ap (λ (r : List ℕ). get_or r (owners + n) 0) (linked_on n l h)
@@ -139,14 +139,14 @@ module _ (owner : ℕ → ℕ) where
   pub links_none : replicate (owners + lines) 0 ≡ links_of owner 0
   links_none = sym links_zero
 
-  -- a turn
-  pub links_on : (k : ℕ) {l : List ℕ} → owner k < owners → l ≡ links_of owner k → set (set l (owners + k) (get_or l (owner k) 0)) (owner k) (k + 1) ≡ links_of owner (k + 1)
-  links_on k {l} h e =
+  -- a turn, whose owner is o
+  pub links_on : (k : ℕ) {l : List ℕ} {o : ℕ} → o ≡ owner k → o < owners → l ≡ links_of owner k → set (set l (owners + k) (get_or l o 0)) o (k + 1) ≡ links_of owner (k + 1)
+  links_on k {l} {o} is h e =
       let q : k + 1 ≡ suc k = omega arith in
-      rw (q, e) (sym (linked_on k (links_of owner k) h) ∙ sym (links_suc k))
+      rw (q, e, is) (sym (linked_on k (links_of owner k) (subst (λ (i : ℕ). i < owners) is h)) ∙ sym (links_suc k))
 
-  pub links_off : (k : ℕ) {l : List ℕ} → owners ≤ owner k → l ≡ links_of owner k → l ≡ links_of owner (k + 1)
-  links_off k h e = e ∙ sym (linked_off k (links_of owner k) h) ∙ sym (links_suc k) ∙ sym (ap (links_of owner) (add-one k))
+  pub links_off : (k : ℕ) {l : List ℕ} {o : ℕ} → o ≡ owner k → owners ≤ o → l ≡ links_of owner k → l ≡ links_of owner (k + 1)
+  links_off k is h e = e ∙ sym (linked_off k (links_of owner k) (subst (λ (i : ℕ). owners ≤ i) is h)) ∙ sym (links_suc k) ∙ sym (ap (links_of owner) (add-one k))
 
 -- only the owners of the n lines matter
 pub links_cong : (f g : ℕ → ℕ) (n : ℕ) → ((k : ℕ) → k < n → f k ≡ g k) → links_of f n ≡ links_of g n

@@ -1,22 +1,20 @@
 -- Marks of owners: turns of the two loops that make them; a mark stays; the owners of a column's lines have marks; and where owners are earlier lines,
--- the owner of a line with a mark has one too. Then the links of the lines that are used. Assumes nothing.
+-- the owner of a line with a mark has one too. Assumes nothing.
 use mathlib.Core.Path.{◌≡◌, sym, ap, ◌∙◌, subst}
 use mathlib.Core.List.{List}
 use Prim.Native.Nat.{ℕ, zero, suc, ◌+◌, ◌-◌, ◌≤◌, ◌<◌}
-use native.Mathlib.Nat.{zero-add, le_refl, le_trans, le-suc}
+use native.Mathlib.Nat.{le_refl, le_trans, le-suc}
 use native.Mathlib.Decide.{ℕ_discrete, dec_lt}
 use native.Mathlib.Omega.{arith}
 use borrow.Author.Tests.{eq-eqb, ne_eqb, lt-ltb, le-ltb}
 use lib.Dec.{ltb}
-use lib.ListN.{length, get_or, set, replicate, length-set, length-replicate, get_or-eq_default}
+use lib.ListN.{length, get_or, set, length-set, get_or-eq_default}
 use lib.Seq.{get_or-set_same, get_or-set_other}
 use Rattle.limits.specs.Limits.{track_places}
-use Rattle.laws.specs.Loop.{changed}
 use Rattle.laws.proofs.laws.Choice.{cond-true, cond-false}
-use Rattle.laws.proofs.laws.Loop.{upto_zero, upto-suc, upto_turn, downto_zero, downto-suc, downto_turn, downto_end, changed_below}
-use Rattle.links.specs.Links.{owners, links_of, column_from}
+use Rattle.laws.proofs.laws.Loop.{upto_zero, upto-suc, upto_turn, downto_zero, downto-suc, downto_turn, downto_end}
+use Rattle.links.specs.Links.{owners}
 use Rattle.links.specs.Marks.{is_marked, owner_marked, owners_marked, above_marked, all_above_marked}
-use Rattle.links.proofs.laws.Links.{links_cong}
 
 -- owner i has a mark
 abbrev pub Marked : List ℕ → ℕ → Type 0
@@ -88,13 +86,13 @@ module _ (owner : ℕ → ℕ) where
   pub owners_none : (l : List ℕ) → l ≡ owners_marked owner 0 l
   owners_none l = sym (owners_zero l)
 
-  pub owners_on : (k : ℕ) (begun : List ℕ) {l : List ℕ} → owner k < owners → l ≡ owners_marked owner k begun → set l (owner k) 1 ≡ owners_marked owner (k + 1) begun
+  pub owners_on : (k : ℕ) (begun : List ℕ) {l : List ℕ} {o : ℕ} → o ≡ owner k → o < owners → l ≡ owners_marked owner k begun → set l o 1 ≡ owners_marked owner (k + 1) begun
   unfolding owners_marked
-  owners_on k begun {l} h e = sym (owner_on k l h) ∙ upto_turn (owner_marked owner) k begun e
+  owners_on k begun {l} is h e = ap (λ (i : ℕ). set l i 1) is ∙ sym (owner_on k l (subst (λ (i : ℕ). i < owners) is h)) ∙ upto_turn (owner_marked owner) k begun e
 
-  pub owners_off : (k : ℕ) (begun : List ℕ) {l : List ℕ} → owners ≤ owner k → l ≡ owners_marked owner k begun → l ≡ owners_marked owner (k + 1) begun
+  pub owners_off : (k : ℕ) (begun : List ℕ) {l : List ℕ} {o : ℕ} → o ≡ owner k → owners ≤ o → l ≡ owners_marked owner k begun → l ≡ owners_marked owner (k + 1) begun
   unfolding owners_marked
-  owners_off k begun {l} h e = sym (owner_off k l h) ∙ upto_turn (owner_marked owner) k begun e
+  owners_off k begun {l} is h e = sym (owner_off k l (subst (λ (i : ℕ). owners ≤ i) is h)) ∙ upto_turn (owner_marked owner) k begun e
 
   -- ---- lines mark their owners
 
@@ -173,10 +171,11 @@ module _ (owner : ℕ → ℕ) where
   line_again : (line : ℕ) → 0 < line → suc (line - 1) ≡ line
   line_again line h = omega arith
 
-  pub above_turn_on : (line : ℕ) (now : List ℕ) {end : List ℕ} → 0 < line → Marked now line → all_above_marked owner line now ≡ end → all_above_marked owner (line - 1) (set now (owner (line - 1)) 1) ≡ end
+  pub above_turn_on : (line : ℕ) (now : List ℕ) {end : List ℕ} {o : ℕ} → o ≡ owner (line - 1) → 0 < line → Marked now line → all_above_marked owner line now ≡ end → all_above_marked owner (line - 1) (set now o 1) ≡ end
   unfolding all_above_marked
-  above_turn_on line now h m e =
-      ap (all_above_marked owner (line - 1)) (sym (above_on (line - 1) now (subst (Marked now) (sym (line_again line h)) m)))
+  above_turn_on line now is h m e =
+      ap (λ (i : ℕ). all_above_marked owner (line - 1) (set now i 1)) is
+      ∙ ap (all_above_marked owner (line - 1)) (sym (above_on (line - 1) now (subst (Marked now) (sym (line_again line h)) m)))
       ∙ downto_turn (above_marked owner) line now h e
 
   pub above_turn_off : (line : ℕ) (now : List ℕ) {end : List ℕ} → 0 < line → (Marked now line → ⊥) → all_above_marked owner line now ≡ end → all_above_marked owner (line - 1) now ≡ end
@@ -188,11 +187,3 @@ module _ (owner : ℕ → ℕ) where
   pub above_end : {line : ℕ} (now : List ℕ) {end : List ℕ} → line ≡ 0 → all_above_marked owner line now ≡ end → now ≡ end
   unfolding all_above_marked
   above_end now h e = downto_end (above_marked owner) now h e
-
--- a column that was made line by line
-pub column_links : (f : ℕ → ℕ) (n : ℕ) {column : List ℕ} → n ≤ track_places → column ≡ changed (λ k x. f k) n (replicate track_places owners) → links_of (column_from column 0) n ≡ links_of f n
-column_links f n {column} few e =
-    links_cong (column_from column 0) f n
-    (λ k h. ap (λ (i : ℕ). get_or column i 0) (zero-add k)
-    ∙ ap (λ (l : List ℕ). get_or l k 0) e
-    ∙ changed_below (λ k x. f k) n (replicate track_places owners) k 0 h (omega (arith, h, few, length-replicate {A = ℕ} track_places owners)))

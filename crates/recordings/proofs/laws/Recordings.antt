@@ -1,21 +1,11 @@
--- Which buffer a sound is from, by the number that says so. What holds of both buffers holds of it. Assumes nothing.
-use mathlib.Core.Path.{◌≡◌}
+-- What holds of both buffers holds of the one that a sound is from. Assumes nothing.
 use mathlib.Core.Bool.{Bool, true, false, cond}
 use mathlib.Core.List.{List}
 use Prim.Native.Nat.{ℕ, ◌^◌, ◌<◌}
-use borrow.Author.Tests.{eq-eqb, ne_eqb}
 use lib.Dec.{eqb}
 use lib.ListN.{length}
 use lib.Ieee.{Float}
 use Rattle.recordings.specs.Recordings.{Recordings, from_house, recording}
-
-pub from_house_lem : (samples : Recordings) (from : ℕ) → from ≡ from_house → recording samples from ≡ samples.house
-unfolding recording
-from_house_lem samples from h = rw (eq-eqb from from_house h)
-
-pub from_visitor : (samples : Recordings) (from : ℕ) → (from ≡ from_house → ⊥) → recording samples from ≡ samples.visitor
-unfolding recording
-from_visitor samples from h = rw (ne_eqb from from_house h)
 
 pub of_both : (P : List Float → Type 0) (samples : Recordings) (from : ℕ) → P samples.house → P samples.visitor → P (recording samples from)
 unfolding recording

@@ -2,7 +2,7 @@
 use mathlib.Core.Path.{◌≡◌, refl, sym, ap, ◌∙◌}
 use mathlib.Core.Bool.{true, false}
 use mathlib.Core.List.{List}
-use mathlib.Core.Option.{none, some}
+use Rattle.std.specs.Prelude.{None, Some}
 use Prim.Native.Nat.{ℕ, ◌+◌, ◌<◌}
 use lib.Dec.{T}
 use lib.ListN.{length, get_or, set}
@@ -33,13 +33,13 @@ module _ (levels : List Float) (i : ℕ) (old : Float) where
   unfolding written_at amplitude_answer written_over
   given t =
       sym (ap (λ (z : Answer). written_over z.value old)
-      (cond-true (admitted n) (record { number = 0; value = some (amplitude n) }) (record { number = 11; value = none }) (test n ∙ t)))
+      (cond-true (admitted n) (record { number = 0; value = Some (amplitude n) }) (record { number = 11; value = None }) (test n ∙ t)))
 
   refused : le n limit ≡ false → old ≡ written_at levels i old
   unfolding written_at amplitude_answer written_over
   refused t =
       sym (ap (λ (z : Answer). written_over z.value old)
-      (cond-false (admitted n) (record { number = 0; value = some (amplitude n) }) (record { number = 11; value = none }) (test n ∙ t)))
+      (cond-false (admitted n) (record { number = 0; value = Some (amplitude n) }) (record { number = 11; value = None }) (test n ∙ t)))
 
 -- the two ways of a turn, from the list as it stands to the list at the next one
 module _ (levels l now : List Float) (i : ℕ) (h : i < length l) (e : now ≡ changed (written_at levels) i l) where

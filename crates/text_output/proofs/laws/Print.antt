@@ -3,12 +3,11 @@ use mathlib.Core.Path.{◌≡◌, refl, sym, ap, ◌∙◌, subst}
 use mathlib.Core.Bool.{Bool, true, false, cond}
 use mathlib.Core.List.{List, [], ◌∷◌, ◌++◌}
 use Prim.Native.Nat.{ℕ, zero, suc, ◌+◌, ◌-◌, ◌*◌, ◌/◌, ◌%◌, ◌≤◌, ◌<◌}
-use native.Mathlib.Numerals.{add-one}
 use native.Mathlib.Omega.{arith}
 use borrow.Author.Tests.{lt-ltb, le-ltb}
 use lib.Dec.{ltb}
-use lib.ListN.{length, get_or, take, drop, set, length-append}
-use lib.Seq.{length-take-le, take-suc}
+use lib.ListN.{length, take, drop, set, length-append}
+use lib.Seq.{length-take-le}
 use Rattle.laws.proofs.laws.Choice.{cond-true}
 use Rattle.laws.specs.Pieces.{pieces, begun, put_at}
 use Rattle.laws.proofs.laws.Pieces.{pieces_zero, pieces-suc, pieces_next, set_put, put_turn, begun_nil, begun_turn}
@@ -28,17 +27,6 @@ module _ {ℓ} {A : Type ℓ} where
 
   pub put_one : (at : ℕ) (l : List A) (x : A) {p : List A} → at < length l → p ≡ x ∷ [] → (at + 1 ≡ at + length p) × (set l at x ≡ put_at at p l)
   put_one at l x h e = (ap (λ (q : List A). at + length q) (sym e), set_put l at x h ∙ ap (λ (q : List A). put_at at q l) (sym e))
-
-  -- the next element of a piece
-  pub put_element : (at i : ℕ) (p l : List A) (d : A) {now : List A} → at + length p ≤ length l → length now ≡ length l → i < length p → now ≡ put_at at (take i p) l
-      → set now (at + i) (get_or p i d) ≡ put_at at (take (i + 1) p) l
-  put_element at i p l d {now} h len k e =
-      set_put now (at + i) (get_or p i d) (omega arith)
-      ∙ put_turn at (take i p) (get_or p i d ∷ []) l (omega arith) e (ap (λ (n : ℕ). at + n) (sym (taken i p k)))
-      ∙ ap (λ (q : List A). put_at at q l) (sym (ap (λ (n : ℕ). take n p) (add-one i) ∙ take-suc p i d k))
-    where
-      taken : (i : ℕ) (p : List A) → i < length p → length (take i p) ≡ i
-      taken i p k = length-take-le i p (omega arith)
 
   -- the next of many pieces
   pub put_piece : (f : ℕ → List A) (at i : ℕ) (l : List A) {a r : ℕ} {now last : List A} → at ≤ length l → a ≡ at + length (pieces f i) → now ≡ put_at at (pieces f i) l

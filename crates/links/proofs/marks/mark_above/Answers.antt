@@ -1,38 +1,31 @@
--- A loop from the last line to the first: its invariant is that of `downto` with a line's mark handed to its owner as its turn.
-use mathlib.Core.Path.{refl, ◌∙◌}
-use Prim.Native.Nat.{◌-◌}
-use native.Mathlib.Omega.{arith}
-use lib.ListN.{length-set}
-use borrow.Author.Rules.{rules}
-use Rattle.links.specs.Links.{column_from}
+use Rattle.std.proofs.Common.{arith, ◌≡◌, ℕ, ◌+◌, ◌-◌, ap, refl, sym, ◌∙◌, ◌<◌, get_or}
 use Rattle.links.proofs.laws.Marks.{above_turn_on, above_turn_off, above_end}
 use Rattle.links.proofs.marks.mark_above.Goals as goal
 
-pub loop-line-init : goal.loop-line-init
-loop-line-init c = (search rules, search rules, refl)
+-- line k + 1 counted from line k
+again : (k : ℕ) → 0 < k → k - 1 + 1 ≡ k
+again k h = omega (arith, h)
 
-pub offset_bounds-marks-owner : goal.offset_bounds-marks-owner
-offset_bounds-marks-owner c =
-    let test = c.loop-line-test.true in
-    let low = c.requires.owners_earlier (c.loop-line.line - 1) (omega (arith, test, c.loop-line.invariant.0)) in
-    omega (arith, low, c.loop-line.invariant.0, c.requires.tracks_in_column.0)
+pub bounds-marks-owner_of : goal.bounds-marks-owner_of
+bounds-marks-owner_of g c =
+    let inside : c.loop-k.k - 1 < c.args.count = omega (arith, c.loop-k-test.true, c.loop-k.auto.k) in
+    omega (arith, c.requires.owners_earlier (c.loop-k.k - 1) c.owner_of.result inside c.owner_of.ensures, c.requires.tracks_fit, c.loop-k.auto.k)
 
-pub bounds-marks-owner : goal.bounds-marks-owner
-bounds-marks-owner c =
-    let test = c.loop-line-test.true in
-    let low = c.requires.owners_earlier (c.loop-line.line - 1) (omega (arith, test, c.loop-line.invariant.0)) in
-    omega (arith, low, c.loop-line.invariant.0, c.loop-line.invariant.1, c.requires.tracks_in_column.0)
+pub loop-k-init : goal.loop-k-init
+loop-k-init g c = λ f h. refl
 
-pub loop-line-preserved-then-own-eq1 : goal.loop-line-preserved-then-own-eq1
-loop-line-preserved-then-own-eq1 c =
-    let line = c.loop-line.line in
-    let owner = column_from c.args.column.now c.args.first in
-    (omega (arith, c.loop-line.invariant.0), length-set c.loop-line.marks (owner (line - 1)) 1 ∙ c.loop-line.invariant.1, above_turn_on owner line c.loop-line.marks (omega (arith, c.loop-line-test.true)) c.if-own-eq1.true c.loop-line.invariant.2)
+pub loop-k-preserved-then-own-eq1 : goal.loop-k-preserved-then-own-eq1
+loop-k-preserved-then-own-eq1 g c = λ f h.
+    let k = c.loop-k.k in
+    let e = again k c.loop-k-test.true in
+    let is = h (k - 1) c.owner_of.result (omega (arith, c.loop-k-test.true, c.loop-k.auto.k)) c.owner_of.ensures in
+    above_turn_on f k c.loop-k.marks is c.loop-k-test.true (ap (λ (i : ℕ). get_or c.loop-k.marks i 0) (sym e) ∙ c.if-own-eq1.true) (c.loop-k.invariant f h)
 
-pub loop-line-preserved : goal.loop-line-preserved
-loop-line-preserved c =
-    let owner = column_from c.args.column.now c.args.first in
-    (omega (arith, c.loop-line.invariant.0), c.loop-line.invariant.1, above_turn_off owner c.loop-line.line c.loop-line.marks (omega (arith, c.loop-line-test.true)) c.if-own-eq1.false c.loop-line.invariant.2)
+pub loop-k-preserved : goal.loop-k-preserved
+loop-k-preserved g c = λ f h.
+    let k = c.loop-k.k in
+    let e = again k c.loop-k-test.true in
+    above_turn_off f k c.loop-k.marks c.loop-k-test.true (λ q. c.if-own-eq1.false (ap (λ (i : ℕ). get_or c.loop-k.marks i 0) e ∙ q)) (c.loop-k.invariant f h)
 
 pub returns : goal.returns
-returns c = above_end (column_from c.args.column.now c.args.first) c.loop-line.marks (omega (arith, c.loop-line-test.false)) c.loop-line.invariant.2
+returns g c = λ f h. above_end f c.loop-k.marks (omega (arith, c.loop-k-test.false)) (c.loop-k.invariant f h)

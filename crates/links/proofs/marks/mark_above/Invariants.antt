@@ -1,12 +1,8 @@
-use mathlib.Core.Path.{◌≡◌}
-use Prim.Native.Nat.{◌≤◌}
-use lib.ListN.{length}
-use Rattle.links.specs.Links.{owners, column_from}
+use Rattle.std.proofs.Common.{◌≡◌, ℕ}
+use Rattle.links.specs.Links.{OwnerIs}
 use Rattle.links.specs.Marks.{all_above_marked}
 use Rattle.links.proofs.marks.mark_above.Given as goal
 
-abbrev pub invariant-loop-line : goal.invariant-loop-line
-invariant-loop-line l = (l.line ≤ l.count) × (length l.marks ≡ owners) × (all_above_marked (column_from l.column l.first) l.line l.marks ≡ all_above_marked (column_from l.column l.first) l.count l.initial.marks)
-
-abbrev pub decreases-loop-line : goal.decreases-loop-line
-decreases-loop-line l = l.line
+-- what is left to do gives what the whole does
+abbrev pub invariant-loop-k : goal.invariant-loop-k
+invariant-loop-k g l = (f : ℕ → ℕ) → OwnerIs l.count (goal.F-post g l.owner_of) f → all_above_marked f l.k l.marks ≡ all_above_marked f l.count l.initial.marks

@@ -1,27 +1,15 @@
--- A loop over the lines of a column: its invariant is `owners_marked` of the lines so far, and each arm of the test takes it one line on.
-use mathlib.Core.Path.{◌≡◌, ap, ◌∙◌}
-use Prim.Native.Nat.{ℕ}
-use native.Mathlib.Omega.{arith}
-use lib.ListN.{length-set}
-use borrow.Author.Rules.{rules}
-use Rattle.links.specs.Links.{column_from}
-use Rattle.links.specs.Marks.{owners_marked}
+use Rattle.std.proofs.Common.{arith, ◌∙◌}
 use Rattle.links.proofs.laws.Marks.{owners_none, owners_on, owners_off}
 use Rattle.links.proofs.marks.mark_owners.Goals as goal
+use Rattle.links.proofs.marks.mark_owners.Goals.{then-owner-lt-OWNERS, else-owner-lt-OWNERS}
 
 pub loop-k-init : goal.loop-k-init
-loop-k-init c = (search rules, search rules, owners_none _ _)
-
-pub loop-k-preserved-then-owner-lt-OWNERS : goal.loop-k-preserved-then-owner-lt-OWNERS
-loop-k-preserved-then-owner-lt-OWNERS c =
-    let owner = column_from c.args.column.now c.args.first in
-    let e = owners_on owner c.loop-k.k c.args.marks.now (omega (arith, c.if-owner-lt-OWNERS.true)) c.loop-k.invariant.2 in
-    (omega (arith, c.loop-k-test.true), length-set c.loop-k.marks (owner c.loop-k.k) 1 ∙ c.loop-k.invariant.1, e)
+loop-k-init g c = λ f h. owners_none f _
 
 pub loop-k-preserved : goal.loop-k-preserved
-loop-k-preserved c = (omega (arith, c.loop-k-test.true), c.loop-k.invariant.1, owners_off (column_from c.args.column.now c.args.first) c.loop-k.k c.args.marks.now (omega (arith, c.if-owner-lt-OWNERS.false)) c.loop-k.invariant.2)
-
-pub returns : goal.returns
-returns c =
-    let done : c.loop-k.k ≡ c.args.count = omega (arith, c.loop-k-test.false, c.loop-k.invariant.0) in
-    c.loop-k.invariant.2 ∙ ap (λ (n : ℕ). owners_marked (column_from c.args.column.now c.args.first) n c.args.marks.now) done
+loop-k-preserved g c = λ f h.
+    let is = h c.loop-k.k c.owner_of-owner.result c.loop-k-test.true c.owner_of-owner.ensures in
+    elim c.if-owner-lt-OWNERS.branch [
+      | then-owner-lt-OWNERS w ↦ w.marks-is ∙ owners_on f c.loop-k.k _ is (omega (arith, w.if-owner-lt-OWNERS.true)) (c.loop-k.invariant f h)
+      | else-owner-lt-OWNERS w ↦ w.marks-is ∙ owners_off f c.loop-k.k _ is (omega (arith, w.if-owner-lt-OWNERS.false)) (c.loop-k.invariant f h)
+    ]

@@ -2,7 +2,7 @@
 -- Assumes nothing.
 use mathlib.Core.Path.{◌≡◌, refl, sym, ap, ◌∙◌}
 use mathlib.Core.Bool.{true, false}
-use mathlib.Core.Option.{none, some}
+use Rattle.std.specs.Prelude.{None, Some}
 use lib.Ieee.{Float, nan, inf, fin, le, is_nan, of_int, of_bits}
 use Rattle.laws.proofs.laws.Choice.{cond-true, cond-false, true-T}
 use Rattle.decibels.specs.Decibels.{amplitude, admitted, limit}
@@ -16,15 +16,15 @@ test nan = refl
 test (inf s) = refl
 test (fin s m e) = refl
 
-told : (n a : Float) → le n limit ≡ true → a ≡ amplitude n → ◌≡◌ {A = Answer} (record { number = 0; value = some a }) (amplitude_answer n)
+told : (n a : Float) → le n limit ≡ true → a ≡ amplitude n → ◌≡◌ {A = Answer} (record { number = 0; value = Some a }) (amplitude_answer n)
 unfolding amplitude_answer
 told n a t e =
-    ap (λ (z : Float). record { number = 0; value = some z }) e
-    ∙ sym (cond-true (admitted n) (record { number = 0; value = some (amplitude n) }) (record { number = 11; value = none }) (test n ∙ t))
+    ap (λ (z : Float). record { number = 0; value = Some z }) e
+    ∙ sym (cond-true (admitted n) (record { number = 0; value = Some (amplitude n) }) (record { number = 11; value = None }) (test n ∙ t))
 
-refused : (n : Float) → le n limit ≡ false → ◌≡◌ {A = Answer} (record { number = 11; value = none }) (amplitude_answer n)
+refused : (n : Float) → le n limit ≡ false → ◌≡◌ {A = Answer} (record { number = 11; value = None }) (amplitude_answer n)
 unfolding amplitude_answer
-refused n t = sym (cond-false (admitted n) (record { number = 0; value = some (amplitude n) }) (record { number = 11; value = none }) (test n ∙ t))
+refused n t = sym (cond-false (admitted n) (record { number = 0; value = Some (amplitude n) }) (record { number = 11; value = None }) (test n ∙ t))
 
 pub as_amplitude_in-requires : goal.as_amplitude_in-requires
 unfolding of_int of_bits

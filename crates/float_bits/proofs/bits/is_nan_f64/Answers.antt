@@ -1,8 +1,0 @@
--- `is_nan_f64` meets its contract: without its sign a NaN's pattern is above the infinity's. Assumes nothing.
-use mathlib.Core.Path.{sym}
-use lib.Ieee.{binary64}
-use lib.Ieee.Bits.{nan_bits_above}
-use Rattle.float_bits.proofs.bits.is_nan_f64.Goals as goal
-
-pub returns : goal.returns
-returns c = sym (nan_bits_above binary64 c.args.bits)
