@@ -54,6 +54,10 @@ module _ {first n : ℕ} (L : Layout first n) where
   abbrev pub with_frames : (ℕ → Frame → Frame) → List Float → List Float
   with_frames f l = with_first f n l
 
+-- what a call may make of frame i < n is what f makes of it
+abbrev pub StepIs : (n : ℕ) → (ℕ → Frame → Frame → Type 0) → (ℕ → Frame → Frame) → Type 0
+StepIs n made f = (i : ℕ) (a b : Frame) → i < n → made i a b → b ≡ f i a
+
 -- ---- two buffers in two layouts
 
 -- they stand for the same n frames

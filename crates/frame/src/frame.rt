@@ -20,6 +20,7 @@ impl Frame {
         }
     }
 
+    #[tactic(auto, unfolding(crate::specs::Frame::added))]
     pub fn added(self, other: Frame) -> Frame
         ensures { result ≡ added self other }
     {
@@ -29,6 +30,7 @@ impl Frame {
         }
     }
 
+    #[tactic(auto, unfolding(crate::specs::Frame::scaled))]
     pub fn scaled(self, factor: Amplitude) -> Frame
         ensures { result ≡ scaled self factor }
     {
@@ -40,6 +42,7 @@ impl Frame {
     }
 
     // Held to -1.0..1.0, as the renderer does before it folds.
+    #[tactic(auto, unfolding(crate::specs::Frame::clamped))]
     pub fn clamped(self) -> Frame
         ensures { result ≡ clamped self }
     {

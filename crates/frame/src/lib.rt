@@ -5,7 +5,7 @@ mod buffer;
 mod frame;
 
 pub use buffer::{
-    add_frames, add_scaled, add_to_both, add_to_three, clear, frame_at, put_frame, sample_frame,
-    scale,
+    add_frames, add_scaled, add_to_both, add_to_three, clear, each_frame, frame_at, put_frame,
+    sample_frame, scale,
 };
 pub use frame::Frame;

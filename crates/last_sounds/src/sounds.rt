@@ -13,7 +13,7 @@ ghost use Rattle.track_volume.specs.TrackVolume.{track_scaled, track_placed_scal
 
 use chunk::ChunkTrack;
 use decibels::Amplitude;
-use frame::{frame_at, put_frame, sample_frame};
+use frame::{each_frame, sample_frame};
 use gain_table::GainTable;
 use level_amplitudes::Parts;
 use limits::CHUNK_FRAMES;
@@ -30,13 +30,10 @@ fn add_and_scale(out: &mut [f32], first: &[f32], second: &[f32], frames: usize, 
         (with_frames (scratch 0 frames) (added_part second.now)
         (with_frames (scratch 0 frames) (added_part first.now) out.old)) }
 {
-    let mut i = 0;
-    while i < frames {
-        let sum = frame_at(out, 0, frames, i).added(sample_frame(first, i));
-        let frame = sum.added(sample_frame(second, i)).scaled(factor);
-        put_frame(out, 0, frames, i, frame);
-        i += 1;
-    }
+    each_frame(out, 0, frames, |i, frame| {
+        let sum = frame.added(sample_frame(first, i));
+        sum.added(sample_frame(second, i)).scaled(factor)
+    });
 }
 
 // The same with volume times fade, of which the fade stands still.
@@ -64,15 +61,11 @@ fn add_with_moving_volume(
     let by = fade.steady_amplitude(table);
     let mut factors = [0.0f32; CHUNK_FRAMES];
     volume.amplitudes(frames, parts, table, &mut factors);
-    let mut i = 0;
-    while i < frames {
-        let sum = frame_at(out, 0, frames, i).added(sample_frame(first, i));
-        let frame = sum
-            .added(sample_frame(second, i))
-            .scaled(Amplitude(factors[i] * by.0));
-        put_frame(out, 0, frames, i, frame);
-        i += 1;
-    }
+    each_frame(out, 0, frames, |i, frame| {
+        let sum = frame.added(sample_frame(first, i));
+        let by = Amplitude(factors[i] * by.0);
+        sum.added(sample_frame(second, i)).scaled(by)
+    });
 }
 
 // The same, whether the volume moves or not.
@@ -109,26 +102,14 @@ fn add_and_apply_volume(
 fn is_plain(placing: Placing) -> bool
     ensures { result ≡ true → placing ≡ Plain }
 {
-    match placing {
-        Placing::Plain => { true }
-        Placing::Unheard => { false }
-        Placing::Spatial(level) => { false }
-    }
+    matches!(placing, Placing::Plain)
 }
 
 // Whether both parts have so many frames, and those are not few: a pass of its own is cheap then.
 fn both_have(first: &[f32], second: &[f32], frames: usize) -> bool
     ensures { result ≡ true → (frames ≤ length first.now / 2) × (frames ≤ length second.now / 2) }
 {
-    if frames < FEW {
-        return false;
-    }
-    if frames <= first.len() / 2 {
-        if frames <= second.len() / 2 {
-            return true;
-        }
-    }
-    false
+    FEW <= frames && frames <= first.len() / 2 && frames <= second.len() / 2
 }
 
 // Adds what is left of two sounds, one and then the other, and then the placing and volume times fade

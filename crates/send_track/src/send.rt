@@ -10,7 +10,7 @@ ghost use Rattle.send_track.specs.Send.{level_scaled, added_send, send_places, c
 
 use chunk::Level;
 use decibels::Amplitude;
-use frame::{Frame, frame_at, put_frame, scale};
+use frame::{Frame, each_frame, frame_at, scale};
 use gain_table::GainTable;
 use level_amplitudes::Parts;
 use limits::{CHUNK_FRAMES, SEND_LINES};
@@ -27,11 +27,7 @@ fn clear_send(sends: &mut [f32], first: usize, frames: usize)
     requires { first + 2 * frames ≤ length sends.old }
     ensures { sends.new ≡ with_frames (scratch first frames) cleared sends.old }
 {
-    let mut i = 0;
-    while i < frames {
-        put_frame(sends, first, frames, i, Frame::zero());
-        i += 1;
-    }
+    each_frame(sends, first, frames, |_, _| Frame::zero());
 }
 
 // Clears the inputs of the first `count` send tracks.
@@ -41,10 +37,8 @@ pub fn clear_sends(sends: &mut [f32], count: usize, frames: usize)
     requires sends_sized { length sends.old ≡ send_places }
     ensures { sends.new ≡ cleared_sends frames count sends.old }
 {
-    let mut s = 0;
-    while s < count {
+    for s in 0..count {
         clear_send(sends, s * SEND_PART, frames);
-        s += 1;
     }
 }
 
@@ -58,15 +52,16 @@ fn apply_factors(out: &mut [f32], level: Level, frames: usize, parts: &Parts, ta
 {
     let mut factors = [0.0f32; CHUNK_FRAMES];
     level.amplitudes(frames, parts, table, &mut factors);
-    let mut i = 0;
-    while i < frames {
-        let frame = frame_at(out, 0, frames, i).scaled(Amplitude(factors[i]));
-        put_frame(out, 0, frames, i, frame);
-        i += 1;
-    }
+    each_frame(
+        out,
+        0,
+        frames,
+        |i, frame| frame.scaled(Amplitude(factors[i])),
+    );
 }
 
 // The same in a chunk of few frames, without the array.
+#[tactic(auto, unfolding(crate::specs::Send::level_scaled))]
 fn apply_each(out: &mut [f32], level: Level, frames: usize, parts: &Parts, table: &GainTable)
     requires gain_table { IsGainTable table.now }
     requires room_for_chunk { (frames ≤ chunk_frames_most) × (2 * frames ≤ length out.old) }
@@ -74,13 +69,9 @@ fn apply_each(out: &mut [f32], level: Level, frames: usize, parts: &Parts, table
     requires parts_of_the_chunk { parts.now ≡ parts_of frames }
     ensures { out.new ≡ with_frames (scratch 0 frames) (level_scaled level frames) out.old }
 {
-    let mut i = 0;
-    while i < frames {
-        let factor = level.amplitude_at(i, frames, parts, table);
-        let frame = frame_at(out, 0, frames, i).scaled(factor);
-        put_frame(out, 0, frames, i, frame);
-        i += 1;
-    }
+    each_frame(out, 0, frames, |i, frame| {
+        frame.scaled(level.amplitude_at(i, frames, parts, table))
+    });
 }
 
 // Scales each frame by one level.
@@ -121,13 +112,10 @@ fn add_steady_send(
         (added_send level frames (frame_at (scratch first frames) inputs.now)) out.old }
 {
     let factor = level.steady_amplitude(table);
-    let mut i = 0;
-    while i < frames {
+    each_frame(out, 0, frames, |i, sum| {
         let input = Frame::zero().added(frame_at(inputs, first, frames, i));
-        let frame = input.scaled(factor);
-        put_frame(out, 0, frames, i, frame_at(out, 0, frames, i).added(frame));
-        i += 1;
-    }
+        sum.added(input.scaled(factor))
+    });
 }
 
 // Adds a send track's scaled frames onto the mix. Its input stands in `inputs` from place `first` on.
@@ -154,11 +142,8 @@ pub fn add_send(
     }
     let mut factors = [0.0f32; CHUNK_FRAMES];
     level.amplitudes(frames, parts, table, &mut factors);
-    let mut i = 0;
-    while i < frames {
+    each_frame(out, 0, frames, |i, sum| {
         let input = Frame::zero().added(frame_at(inputs, first, frames, i));
-        let frame = input.scaled(Amplitude(factors[i]));
-        put_frame(out, 0, frames, i, frame_at(out, 0, frames, i).added(frame));
-        i += 1;
-    }
+        sum.added(input.scaled(Amplitude(factors[i])))
+    });
 }

@@ -1,26 +1,23 @@
 // A sound: frames of the buffer that it is from in turn, then zeros. They are added from that buffer
 // straight onto the sum: nothing is copied in between.
 ghost use Rattle.std.specs.Prelude.{◌≡◌, ◌+◌, ◌*◌, ◌/◌, ◌≤◌, length};
-ghost use Rattle.recordings.specs.Recordings.{recordings, recording};
+ghost use Rattle.recordings.specs.Recordings.{recording};
 ghost use Rattle.frame.specs.Frame.{from_frame};
 ghost use Rattle.frame.specs.Layout.{scratch, with_first, with_frames};
 ghost use Rattle.sound.specs.Part.{remaining_part, added_part, added_zero};
 
 use chunk::ChunkSound;
 use frame::{Frame, frame_at, put_frame, sample_frame};
-use recordings::HOUSE;
+use recordings::Recordings;
 
 // What the sound still has to play: that part of whichever buffer it is from, and no copy of it.
-pub fn remaining<'a>(samples: &'a [f32], visitor: &'a [f32], sound: ChunkSound) -> &'a [f32]
-    requires { 2 * (sound.start + sound.left) ≤ length (recording (recordings samples.now visitor.now) sound.from) }
-    ensures { result.now ≡ remaining_part (recordings samples.now visitor.now) sound }
+pub fn remaining<'a>(heard: &Recordings<'a>, sound: ChunkSound) -> &'a [f32]
+    requires { 2 * (sound.start + sound.left) ≤ length (recording heard.now sound.from) }
+    ensures { result.now ≡ remaining_part heard.now sound }
 {
     let start = sound.start;
     let left = sound.left;
-    if sound.from == HOUSE {
-        return &samples[2 * start..2 * (start + left)];
-    }
-    &visitor[2 * start..2 * (start + left)]
+    &heard.recording(sound.from)[2 * start..2 * (start + left)]
 }
 
 // Adds the first `count` frames of the part.
@@ -29,11 +26,9 @@ fn add_played(to: &mut [f32], part: &[f32], count: usize, frames: usize)
     requires played_frames_there { (count ≤ length part.now / 2) × (count ≤ frames) }
     ensures { to.new ≡ with_first (scratch 0 frames) (added_part part.now) count to.old }
 {
-    let mut i = 0;
-    while i < count {
+    for i in 0..count {
         let sum = frame_at(to, 0, frames, i).added(sample_frame(part, i));
         put_frame(to, 0, frames, i, sum);
-        i += 1;
     }
 }
 
@@ -43,11 +38,9 @@ fn add_silence(to: &mut [f32], first: usize, frames: usize)
     requires first_within_frames { first ≤ frames }
     ensures { to.new ≡ with_frames (scratch 0 frames) (from_frame first added_zero) to.old }
 {
-    let mut i = first;
-    while i < frames {
+    for i in first..frames {
         let sum = frame_at(to, 0, frames, i).added(Frame::zero());
         put_frame(to, 0, frames, i, sum);
-        i += 1;
     }
 }
 

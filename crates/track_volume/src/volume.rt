@@ -12,7 +12,7 @@ ghost use Rattle.track_volume.specs.TrackVolume.{track_placed, track_scaled, tra
 
 use chunk::ChunkTrack;
 use decibels::{Amplitude, Decibels};
-use frame::{clear, frame_at, put_frame, scale};
+use frame::{clear, each_frame, scale};
 use gain_table::GainTable;
 use level_amplitudes::Parts;
 use limits::CHUNK_FRAMES;
@@ -41,12 +41,9 @@ fn apply_moving_volume(
     let by = fade.steady_amplitude(table);
     let mut factors = [0.0f32; CHUNK_FRAMES];
     volume.amplitudes(frames, parts, table, &mut factors);
-    let mut i = 0;
-    while i < frames {
-        let frame = frame_at(out, 0, frames, i).scaled(Amplitude(factors[i] * by.0));
-        put_frame(out, 0, frames, i, frame);
-        i += 1;
-    }
+    each_frame(out, 0, frames, |i, frame| {
+        frame.scaled(Amplitude(factors[i] * by.0))
+    });
 }
 
 // `apply_volume` where both may move.
@@ -63,12 +60,9 @@ fn apply_moving(out: &mut [f32], track: ChunkTrack, frames: usize, parts: &Parts
     let mut fades = [0.0f32; CHUNK_FRAMES];
     volume.amplitudes(frames, parts, table, &mut volumes);
     fade.amplitudes(frames, parts, table, &mut fades);
-    let mut i = 0;
-    while i < frames {
-        let frame = frame_at(out, 0, frames, i).scaled(Amplitude(volumes[i] * fades[i]));
-        put_frame(out, 0, frames, i, frame);
-        i += 1;
-    }
+    each_frame(out, 0, frames, |i, frame| {
+        frame.scaled(Amplitude(volumes[i] * fades[i]))
+    });
 }
 
 // The same in a chunk of few frames, where an array of factors would cost more than they do.
@@ -81,14 +75,11 @@ fn apply_each(out: &mut [f32], track: ChunkTrack, frames: usize, parts: &Parts, 
 {
     let volume = track.volume;
     let fade = track.fade;
-    let mut i = 0;
-    while i < frames {
+    each_frame(out, 0, frames, |i, frame| {
         let a = volume.amplitude_at(i, frames, parts, table);
         let b = fade.amplitude_at(i, frames, parts, table);
-        let frame = frame_at(out, 0, frames, i).scaled(Amplitude(a.0 * b.0));
-        put_frame(out, 0, frames, i, frame);
-        i += 1;
-    }
+        frame.scaled(Amplitude(a.0 * b.0))
+    });
 }
 
 // Volume times fade scales each frame where one of them moves.
@@ -144,12 +135,7 @@ fn scale_twice(out: &mut [f32], frames: usize, first: Amplitude, then: Amplitude
     ensures { out.new ≡ with_frames (scratch 0 frames) (scaled_by then)
         (with_frames (scratch 0 frames) (scaled_by first) out.old) }
 {
-    let mut i = 0;
-    while i < frames {
-        let frame = frame_at(out, 0, frames, i).scaled(first).scaled(then);
-        put_frame(out, 0, frames, i, frame);
-        i += 1;
-    }
+    each_frame(out, 0, frames, |_, frame| frame.scaled(first).scaled(then));
 }
 
 // A spatial track's level, and then volume times fade: one pass where both stand still.

@@ -1,5 +1,5 @@
 -- What is left of a sound: how many frames the part has, and which. Then a part's frames in two loops: those that it has, then zeros. Assumes nothing.
-use mathlib.Core.Path.{◌≡◌, sym, ap, ◌∙◌, subst}
+use mathlib.Core.Path.{◌≡◌, sym, ap, ◌∙◌}
 use mathlib.Core.List.{List}
 use Prim.Native.Nat.{ℕ, ◌+◌, ◌-◌, ◌*◌, ◌/◌, ◌≤◌, ◌<◌}
 use native.Mathlib.Nat.{lt_of_lt_of_le}
@@ -7,8 +7,7 @@ use native.Mathlib.Omega.{arith}
 use lib.ListN.{length, drop, get_or, length-drop}
 use lib.Seq.{length-take-le, get_or-take, get_or-drop}
 use lib.Ieee.{Float, nan}
-use Rattle.recordings.specs.Recordings.{Recordings, from_house, recording}
-use Rattle.recordings.proofs.laws.Recordings.{from_house_lem, from_visitor}
+use Rattle.recordings.specs.Recordings.{Recordings, recording}
 use Rattle.frame.specs.declared.frame.Frame.{Frame}
 use Rattle.chunk.specs.declared.chunk.ChunkSound.{ChunkSound}
 use Rattle.frame.specs.Frame.{zero_frame, added, sample_frame, from_frame}
@@ -17,13 +16,6 @@ use Rattle.frame.proofs.laws.Places.{scratch_apart}
 use Rattle.frame.proofs.laws.Layout.{first_cong, first_rest}
 use Rattle.laws.proofs.laws.Choice.{picks_lt, leaves_lt}
 use Rattle.sound.specs.Part.{remaining_part, part_frame, added_part, added_zero}
-
--- what lies within the buffer that a sound is from lies within that one
-pub holds_house : (samples : Recordings) (from n : ℕ) → from ≡ from_house → n ≤ length (recording samples from) → n ≤ length samples.house
-holds_house samples from n e h = subst (λ (l : List Float). n ≤ length l) (from_house_lem samples from e) h
-
-pub holds_visitor : (samples : Recordings) (from n : ℕ) → (from ≡ from_house → ⊥) → n ≤ length (recording samples from) → n ≤ length samples.visitor
-holds_visitor samples from n e h = subst (λ (l : List Float). n ≤ length l) (from_visitor samples from e) h
 
 half : (n : ℕ) → 2 * n / 2 ≡ n
 half n = omega arith

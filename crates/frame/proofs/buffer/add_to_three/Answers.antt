@@ -4,37 +4,28 @@ use mathlib.Core.Path.{◌≡◌, refl, sym, ◌∙◌}
 use Prim.Native.Nat.{◌*◌}
 use native.Mathlib.Omega.{arith}
 use lib.ListN.{length-set}
-use borrow.Author.Rules.{rules}
 use Rattle.laws.proofs.laws.Loop.{upto_zero, upto_turn, upto_end}
 use Rattle.frame.proofs.laws.Numbers.{plus_number, plus_scaled, run_turn, two_turns, run_turn_lem, plus_run, both_runs}
 use Rattle.frame.proofs.buffer.add_to_three.Goals as goal
 
 pub loop-i-init : goal.loop-i-init
-loop-i-init c = (search rules, refl, refl, sym (upto_zero _ _), sym (upto_zero _ _))
-
-pub bounds-other-second : goal.bounds-other-second
-bounds-other-second c = simp length-set (omega (arith, c.loop-i-test.true, c.loop-i.invariant.2, c.requires.room_for_second))
-
-pub bounds-other-second-in-loop-i : goal.bounds-other-second-in-loop-i
-bounds-other-second-in-loop-i c = simp length-set (omega (arith, c.loop-i-test.true, c.loop-i.invariant.2, c.requires.room_for_second))
+loop-i-init c = (refl, refl, sym (upto_zero _ _), sym (upto_zero _ _))
 
 pub loop-i-preserved : goal.loop-i-preserved
 loop-i-preserved c =
     let one = plus_scaled c.args.from.now c.args.factor in
-    let two = plus_scaled c.args.from.now c.args.then in
-    let h = c.loop-i-test.true in (
-      omega (arith, h),
+    let two = plus_scaled c.args.from.now c.args.then in (
+      simp length-set c.loop-i.invariant.0,
       simp length-set c.loop-i.invariant.1,
-      simp length-set c.loop-i.invariant.2,
-      run_turn_lem (plus_number c.args.from.now) c.loop-i.i c.args.to.now c.loop-i.invariant.3,
-      upto_turn (two_turns c.args.first c.args.second one two) c.loop-i.i c.args.other.now c.loop-i.invariant.4,
+      run_turn_lem (plus_number c.args.from.now) c.loop-i.i c.args.to.now c.loop-i.invariant.2,
+      upto_turn (two_turns c.args.first c.args.second one two) c.loop-i.i c.args.other.now c.loop-i.invariant.3,
     )
 
 pub returns : goal.returns
 returns c =
     let from = c.args.from.now in
-    let all : c.loop-i.i ≡ 2 * c.args.frames = omega (arith, c.loop-i-test.false, c.loop-i.invariant.0) in record {
-      to = upto_end (run_turn 0 (plus_number from)) c.args.to.now all c.loop-i.invariant.3 ∙ plus_run from c.args.frames c.args.to.now;
-      other = upto_end (two_turns c.args.first c.args.second (plus_scaled from c.args.factor) (plus_scaled from c.args.then)) c.args.other.now all c.loop-i.invariant.4
+    let all : c.loop-i.i ≡ 2 * c.args.frames = omega (arith, c.loop-i-test.false, c.loop-i.auto.i-end) in record {
+      to = upto_end (run_turn 0 (plus_number from)) c.args.to.now all c.loop-i.invariant.2 ∙ plus_run from c.args.frames c.args.to.now;
+      other = upto_end (two_turns c.args.first c.args.second (plus_scaled from c.args.factor) (plus_scaled from c.args.then)) c.args.other.now all c.loop-i.invariant.3
           ∙ both_runs from c.args.frames c.args.first c.args.second c.args.factor c.args.then c.args.other.now c.requires.second_not_inside_first;
     }

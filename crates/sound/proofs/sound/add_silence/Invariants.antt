@@ -1,5 +1,4 @@
 use mathlib.Core.Path.{◌≡◌}
-use Prim.Native.Nat.{◌-◌, ◌≤◌}
 use lib.ListN.{length}
 use Rattle.frame.specs.Frame.{from_frame}
 use Rattle.frame.specs.Layout.{scratch, with_first}
@@ -7,7 +6,4 @@ use Rattle.sound.specs.Part.{added_zero}
 use Rattle.sound.proofs.sound.add_silence.Given as goal
 
 abbrev pub invariant-loop-i : goal.invariant-loop-i
-invariant-loop-i l = (l.first ≤ l.i) × (l.i ≤ l.frames) × (length l.to ≡ length l.initial.to) × (l.to ≡ with_first (scratch 0 l.frames) (from_frame l.first added_zero) l.i l.initial.to)
-
-abbrev pub decreases-loop-i : goal.decreases-loop-i
-decreases-loop-i l = l.frames - l.i
+invariant-loop-i l = (length l.to ≡ length l.initial.to) × (l.to ≡ with_first (scratch 0 l.frames) (from_frame l.first added_zero) l.i l.initial.to)
