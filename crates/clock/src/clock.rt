@@ -36,6 +36,7 @@ impl Clock {
     }
 
     // The clock's time, as kira's info.rs reads it.
+    #[tactic(auto, unfolding(crate::specs::Clock::time_of, crate::specs::Clock::ticks_of, crate::specs::Clock::fraction_of))]
     pub fn time(self, clock: usize) -> ClockTime
         ensures { result ≡ time_of self clock }
     {
@@ -58,31 +59,21 @@ impl Clock {
     }
 
     // Moves the clock on by dt seconds.
-    pub fn update(self, dt: f64) -> Clock
-        requires { CanMove self dt }
-        ensures { result ≡ updated self dt }
+    #[tactic(auto, unfolding(crate::specs::Clock::updated))]
+    pub fn update(&mut self, dt: f64)
+        requires { CanMove self.old dt }
+        ensures { self.new ≡ updated self.old dt }
     {
-        let ticking = self.ticking;
-        if !ticking {
-            return self;
+        if !self.ticking {
+            return;
         }
-        let speed = self.speed;
-        let step = speed.as_ticks_per_second() * dt;
-        let state = self.state;
-        match state {
-            ClockState::NotStarted => Clock {
-                ticking: true,
-                speed,
-                state: take_ticks(0, 0.0 + step),
-            },
+        let step = self.speed.as_ticks_per_second() * dt;
+        match self.state {
+            ClockState::NotStarted => self.state = take_ticks(0, 0.0 + step),
             ClockState::Started {
                 ticks,
                 fractional_position,
-            } => Clock {
-                ticking: true,
-                speed,
-                state: take_ticks(ticks, fractional_position + step),
-            },
+            } => self.state = take_ticks(ticks, fractional_position + step),
         }
     }
 }

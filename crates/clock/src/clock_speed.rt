@@ -11,6 +11,7 @@ pub enum ClockSpeed {
 }
 
 impl ClockSpeed {
+    #[tactic(auto, unfolding(crate::specs::ClockSpeed::as_ticks_per_second))]
     pub fn as_ticks_per_second(self) -> f64
         ensures { result ≡ as_ticks_per_second self }
     {

@@ -15,6 +15,7 @@ pub struct ClockTime {
 impl ClockTime {
     // `self >= other` by kira's PartialOrd: ticks first, then fractions; times of two clocks have no
     // order.
+    #[tactic(auto, unfolding(crate::specs::ClockTime::at_or_after))]
     pub fn at_or_after(self, other: ClockTime) -> bool
         ensures { result ≡ at_or_after self other }
     {

@@ -5,7 +5,7 @@ ghost use Rattle.clock.specs.WhenToStart.{when_to_start};
 use crate::clock::Clock;
 use crate::clock_time::ClockTime;
 
-#[derive(Clone, Copy)]
+#[derive(Clone, Copy, PartialEq, Eq, Debug)]
 pub enum WhenToStart {
     Now,
     // The clock doesn't tick, or has not come to that time.
@@ -22,21 +22,20 @@ pub struct Clocks {
 }
 
 impl Clocks {
-    pub fn when_to_start(self, time: ClockTime) -> WhenToStart
-        requires { self.count ≤ 8 }
-        ensures { result ≡ when_to_start self time }
+    #[tactic(auto, unfolding(crate::specs::WhenToStart::when_to_start))]
+    pub fn when_to_start(&self, time: ClockTime) -> WhenToStart
+        requires { self.now.count ≤ 8 }
+        ensures { result ≡ when_to_start self.now time }
     {
         let index = time.clock;
         if self.count <= index {
             return WhenToStart::Never;
         }
-        let clocks = self.clocks;
-        let clock = clocks[index];
+        let clock = self.clocks[index];
         if !clock.ticking {
             return WhenToStart::Later;
         }
-        let now = clock.time(index);
-        if now.at_or_after(time) {
+        if clock.time(index).at_or_after(time) {
             WhenToStart::Now
         } else {
             WhenToStart::Later

@@ -1,7 +1,7 @@
 // kira's backend/resources/mixer.rs: the state that moves, when it is made.
 ghost use Rattle.std.specs.Prelude.{◌≡◌, ◌≤◌};
 ghost use Rattle.accepted.specs.SceneOk.{SceneOk};
-ghost use Rattle.mixer.specs.Mixer.{clocks_new, tracks_new, sends_new, routes_new, mixer_new};
+ghost use Rattle.mixer.specs.Mixer.{empty_clock, empty_track, empty_parameter, zero_decibels, clocks_new, tracks_new, sends_new, routes_new, mixer_new};
 ghost use Rattle.limits.specs.Limits.{clock_lines, track_places, send_lines, route_lines};
 
 use crate::sub::Track;
@@ -23,91 +23,94 @@ pub struct Mixer {
     pub played: [usize; SOUND_LINES],
 }
 
-fn new_clocks(scene: Scene) -> Clocks
-    requires { scene.clock_count ≤ clock_lines }
-    ensures { result ≡ clocks_new scene }
+// What stands where a scene has no line.
+fn empty_clock() -> Clock
+    ensures { result ≡ empty_clock }
 {
-    let lines = scene.clocks;
-    let mut clocks = [Clock::new(ClockSpeed::TicksPerSecond(0.0), false); CLOCK_LINES];
+    Clock::new(ClockSpeed::TicksPerSecond(0.0), false)
+}
+
+#[tactic(auto, unfolding(crate::specs::Mixer::empty_track))]
+fn empty_track() -> Track
+    ensures { result ≡ empty_track }
+{
+    Track::new(zero_decibels())
+}
+
+#[tactic(auto, unfolding(crate::specs::Mixer::empty_parameter))]
+fn empty_parameter() -> Parameter
+    ensures { result ≡ empty_parameter }
+{
+    Parameter::new(zero_decibels())
+}
+
+fn zero_decibels() -> Decibels
+    ensures { result ≡ zero_decibels }
+{
+    Decibels(0.0)
+}
+
+#[tactic(auto, using(laws::proofs::laws::Loop::changed_zero), unfolding(crate::specs::Mixer::clocks_new))]
+fn new_clocks(scene: &Scene) -> Clocks
+    requires { scene.now.clock_count ≤ clock_lines }
+    ensures { result ≡ clocks_new scene.now }
+{
     let count = scene.clock_count;
-    let mut i = 0;
-    while i < count {
-        let line = lines[i];
-        let speed = line.speed;
-        clocks[i] = Clock::new(speed, line.ticking);
-        i += 1;
+    let mut clocks = [empty_clock(); CLOCK_LINES];
+    for i in 0..count {
+        clocks[i] = Clock::new(scene.clocks[i].speed, scene.clocks[i].ticking);
     }
     Clocks { clocks, count }
 }
 
-fn new_tracks(scene: Scene) -> [Track; TRACK_PLACES]
-    requires { scene.track_count ≤ track_places }
-    ensures { result ≡ tracks_new scene }
+#[tactic(auto, using(laws::proofs::laws::Loop::changed_zero), unfolding(crate::specs::Mixer::tracks_new))]
+fn new_tracks(scene: &Scene) -> [Track; TRACK_PLACES]
+    requires { scene.now.track_count ≤ track_places }
+    ensures { result ≡ tracks_new scene.now }
 {
-    let lines = scene.tracks;
-    let mut tracks = [Track::new(Decibels(0.0)); TRACK_PLACES];
-    let count = scene.track_count;
-    let mut t = 0;
-    while t < count {
-        let line = lines[t];
-        let volume = line.volume;
-        tracks[t] = Track::new(volume);
-        t += 1;
+    let mut tracks = [empty_track(); TRACK_PLACES];
+    for t in 0..scene.track_count {
+        tracks[t] = Track::new(scene.tracks[t].volume);
     }
     tracks
 }
 
-fn new_sends(scene: Scene) -> [Parameter; SEND_LINES]
-    requires { scene.send_count ≤ send_lines }
-    ensures { result ≡ sends_new scene }
+#[tactic(auto, using(laws::proofs::laws::Loop::changed_zero), unfolding(crate::specs::Mixer::sends_new))]
+fn new_sends(scene: &Scene) -> [Parameter; SEND_LINES]
+    requires { scene.now.send_count ≤ send_lines }
+    ensures { result ≡ sends_new scene.now }
 {
-    let lines = scene.sends;
-    let mut sends = [Parameter::new(Decibels(0.0)); SEND_LINES];
-    let count = scene.send_count;
-    let mut i = 0;
-    while i < count {
-        let line = lines[i];
-        let volume = line.volume;
-        sends[i] = Parameter::new(volume);
-        i += 1;
+    let mut sends = [empty_parameter(); SEND_LINES];
+    for i in 0..scene.send_count {
+        sends[i] = Parameter::new(scene.sends[i].volume);
     }
     sends
 }
 
-fn new_routes(scene: Scene) -> [Parameter; ROUTE_LINES]
-    requires { scene.route_count ≤ route_lines }
-    ensures { result ≡ routes_new scene }
+#[tactic(auto, using(laws::proofs::laws::Loop::changed_zero), unfolding(crate::specs::Mixer::routes_new))]
+fn new_routes(scene: &Scene) -> [Parameter; ROUTE_LINES]
+    requires { scene.now.route_count ≤ route_lines }
+    ensures { result ≡ routes_new scene.now }
 {
-    let lines = scene.routes;
-    let mut routes = [Parameter::new(Decibels(0.0)); ROUTE_LINES];
-    let count = scene.route_count;
-    let mut r = 0;
-    while r < count {
-        let line = lines[r];
-        let volume = line.volume;
-        routes[r] = Parameter::new(volume);
-        r += 1;
+    let mut routes = [empty_parameter(); ROUTE_LINES];
+    for r in 0..scene.route_count {
+        routes[r] = Parameter::new(scene.routes[r].volume);
     }
     routes
 }
 
 impl Mixer {
+    #[tactic(auto, unfolding(crate::specs::Mixer::mixer_new))]
     pub fn new(scene: Scene) -> Mixer
         requires { SceneOk scene }
         ensures { result ≡ mixer_new scene }
     {
-        let head = scene.head;
-        let volume = head.volume;
-        let clocks = new_clocks(scene);
-        let tracks = new_tracks(scene);
-        let sends = new_sends(scene);
-        let routes = new_routes(scene);
         Mixer {
-            clocks,
-            main_volume: Parameter::new(volume),
-            tracks,
-            sends,
-            routes,
+            clocks: new_clocks(&scene),
+            main_volume: Parameter::new(scene.head.volume),
+            tracks: new_tracks(&scene),
+            sends: new_sends(&scene),
+            routes: new_routes(&scene),
             played: [0usize; SOUND_LINES],
         }
     }

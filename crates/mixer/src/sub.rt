@@ -16,6 +16,7 @@ pub struct Track {
 }
 
 impl Track {
+    #[tactic(auto, unfolding(crate::specs::Sub::track_new))]
     pub fn new(volume: Decibels) -> Track
         ensures { result ≡ track_new volume }
     {

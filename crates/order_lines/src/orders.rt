@@ -8,6 +8,7 @@ use limits::ROUTE_LINES;
 use scene::{OrderKind, OrderLine};
 use tween::{StartTime, Tween};
 
+#[tactic(auto, unfolding(crate::specs::Orders::kind_number))]
 pub fn kind_number(kind: OrderKind) -> u32
     ensures { result ≡ kind_number kind }
 {
@@ -29,6 +30,7 @@ pub const MARKS: usize = 6 * KEYS;
 // Of each kind and index the last line in a block. Lines are counted from 1, and 0 is none.
 pub type Marks = [usize; MARKS];
 
+#[tactic(auto, unfolding(crate::specs::Orders::key))]
 pub fn key(kind: OrderKind, index: usize) -> usize
     requires { index < keys }
     ensures { result ≡ key kind index }
@@ -55,6 +57,7 @@ pub fn counts_by(marks: &Marks, order: OrderLine, i: usize) -> bool
     !(line < marks[pause])
 }
 
+#[tactic(auto, unfolding(crate::specs::Orders::tween_of))]
 pub fn tween_of(order: OrderLine) -> Tween
     requires { order.millis ≤ 3600000 }
     ensures { result ≡ tween_of order }
@@ -69,6 +72,7 @@ pub fn tween_of(order: OrderLine) -> Tween
 }
 
 // The fade of a resume starts at once: the order's start is the resume's.
+#[tactic(auto, unfolding(crate::specs::Orders::resume_tween_of))]
 pub fn resume_tween_of(order: OrderLine) -> Tween
     requires { order.millis ≤ 3600000 }
     ensures { result ≡ resume_tween_of order }

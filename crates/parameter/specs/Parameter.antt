@@ -18,8 +18,16 @@ use Rattle.tween.specs.Tweenable.{interpolated}
 use Rattle.parameter.specs.declared.parameter.ParameterState.{ParameterState}
 use Rattle.parameter.specs.declared.parameter.ParameterState.TheVariants.{Idle, Tweening}
 use Rattle.parameter.specs.declared.parameter.Parameter.{Parameter}
-use Rattle.parameter.specs.declared.parameter.ParameterUpdate.{ParameterUpdate}
-use Rattle.parameter.specs.declared.parameter.TweenStart.{TweenStart}
+
+-- a parameter after an update, and whether its tween ended with that
+pub record ParameterUpdate : Type 0 where
+  pub parameter : Parameter
+  pub just_finished_tween : Bool
+
+-- a tween, and whether its motion has started
+pub record TweenStart : Type 0 where
+  pub tween : Tween
+  pub started : Bool
 
 unfoldable pub parameter_new : Decibels → Parameter
 parameter_new value = record { state = Idle value; raw_value = value; previous_raw_value = value; stagnant = true }

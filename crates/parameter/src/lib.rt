@@ -3,4 +3,4 @@
 
 mod parameter;
 
-pub use parameter::{Parameter, ParameterState, ParameterUpdate};
+pub use parameter::{Parameter, ParameterState};

@@ -31,21 +31,8 @@ pub struct Parameter {
     pub stagnant: bool,
 }
 
-// A parameter after an update, and whether its tween ended with that.
-#[derive(Clone, Copy)]
-pub struct ParameterUpdate {
-    pub parameter: Parameter,
-    pub just_finished_tween: bool,
-}
-
-// A tween, and whether its motion has started.
-#[derive(Clone, Copy)]
-struct TweenStart {
-    tween: Tween,
-    started: bool,
-}
-
 impl Parameter {
+    #[tactic(auto, unfolding(crate::specs::Parameter::parameter_new))]
     pub fn new(value: Decibels) -> Parameter
         ensures { result ≡ parameter_new value }
     {
@@ -70,6 +57,7 @@ impl Parameter {
     }
 
     // Between the value before the last update and the value now.
+    #[tactic(auto, unfolding(crate::specs::Parameter::interpolated_value))]
     pub fn interpolated_value(self, amount: f64) -> Decibels
         ensures { result ≡ interpolated_value self amount }
     {
@@ -79,136 +67,91 @@ impl Parameter {
     }
 
     // Starts a motion from the value now to the target.
-    pub fn set(self, target: Decibels, tween: Tween) -> Parameter
-        ensures { result ≡ parameter_set self target tween }
+    #[tactic(auto, unfolding(crate::specs::Parameter::parameter_set))]
+    pub fn set(&mut self, target: Decibels, tween: Tween)
+        ensures { self.new ≡ parameter_set self.old target tween }
     {
-        let value = self.raw_value;
-        let previous = self.previous_raw_value;
-        Parameter {
-            state: ParameterState::Tweening {
-                start: value,
-                target,
-                time: 0.0,
-                tween,
-            },
-            raw_value: value,
-            previous_raw_value: previous,
-            stagnant: false,
-        }
+        self.state = ParameterState::Tweening {
+            start: self.raw_value,
+            target,
+            time: 0.0,
+            tween,
+        };
+        self.stagnant = false;
     }
 
-    pub fn update(mut self, dt: f64, clocks: Clocks) -> ParameterUpdate
+    // Answers whether the tween ended.
+    #[tactic(auto, unfolding(crate::specs::Parameter::parameter_update, crate::specs::Parameter::with_previous, crate::specs::Parameter::with_new_value))]
+    pub fn update(&mut self, dt: f64, clocks: &Clocks) -> bool
         requires in_an_hour { InAnHour dt }
-        requires clocks_fit { clocks.count ≤ 8 }
-        ensures { result ≡ parameter_update self dt clocks }
+        requires clocks_fit { clocks.now.count ≤ 8 }
+        ensures parameter { self.new ≡ (parameter_update self.old dt clocks.now).parameter }
+        ensures finished { result ≡ (parameter_update self.old dt clocks.now).just_finished_tween }
     {
-        let value = self.raw_value;
-        self.previous_raw_value = value;
+        self.previous_raw_value = self.raw_value;
         if self.stagnant {
-            return ParameterUpdate {
-                parameter: self,
-                just_finished_tween: false,
-            };
+            return false;
         }
-        let moved = self.update_tween(dt, clocks);
-        let mut parameter = moved.parameter;
-        let value = parameter.new_raw_value();
-        parameter.raw_value = value;
-        ParameterUpdate {
-            parameter,
-            just_finished_tween: moved.just_finished_tween,
-        }
+        let finished = self.update_tween(dt, clocks);
+        self.raw_value = self.new_raw_value();
+        finished
     }
 
-    fn update_tween(self, dt: f64, clocks: Clocks) -> ParameterUpdate
+    #[tactic(auto, unfolding(crate::specs::Parameter::tween_update, crate::specs::Parameter::tween_update_in, crate::specs::Parameter::with_state))]
+    fn update_tween(&mut self, dt: f64, clocks: &Clocks) -> bool
         requires in_an_hour { InAnHour dt }
-        requires clocks_fit { clocks.count ≤ 8 }
-        ensures { result ≡ tween_update self dt clocks }
+        requires clocks_fit { clocks.now.count ≤ 8 }
+        ensures parameter { self.new ≡ (tween_update self.old dt clocks.now).parameter }
+        ensures finished { result ≡ (tween_update self.old dt clocks.now).just_finished_tween }
     {
-        let state = self.state;
-        match state {
-            ParameterState::Idle { value: _ } => ParameterUpdate {
-                parameter: self,
-                just_finished_tween: false,
-            },
+        match self.state {
+            ParameterState::Idle { value: _ } => false,
             ParameterState::Tweening {
                 start,
                 target,
                 time,
-                tween,
+                mut tween,
             } => {
-                let begun = start_tween(tween, dt, clocks);
-                let tween = begun.tween;
-                if begun.started {
-                    self.move_tween(start, target, time + dt, tween)
-                } else {
-                    let value = self.raw_value;
-                    let previous = self.previous_raw_value;
-                    ParameterUpdate {
-                        parameter: Parameter {
-                            state: ParameterState::Tweening {
-                                start,
-                                target,
-                                time,
-                                tween,
-                            },
-                            raw_value: value,
-                            previous_raw_value: previous,
-                            stagnant: self.stagnant,
-                        },
-                        just_finished_tween: false,
-                    }
+                if start_tween(&mut tween, dt, clocks) {
+                    return self.move_tween(start, target, time + dt, tween);
                 }
+                self.state = ParameterState::Tweening {
+                    start,
+                    target,
+                    time,
+                    tween,
+                };
+                false
             }
         }
     }
 
     // A motion that has come to a time: it ends there or goes on.
-    fn move_tween(
-        self,
-        start: Decibels,
-        target: Decibels,
-        time: f64,
-        tween: Tween,
-    ) -> ParameterUpdate
-        ensures { result ≡ tween_move self start target time tween }
+    #[tactic(auto, unfolding(crate::specs::Parameter::tween_move, crate::specs::Parameter::with_state))]
+    fn move_tween(&mut self, start: Decibels, target: Decibels, time: f64, tween: Tween) -> bool
+        ensures parameter { self.new ≡ (tween_move self.old start target time tween).parameter }
+        ensures finished { result ≡ (tween_move self.old start target time tween).just_finished_tween }
     {
-        let value = self.raw_value;
-        let previous = self.previous_raw_value;
         if time >= rounding::secs_f64_from_millis(tween.duration) {
-            ParameterUpdate {
-                parameter: Parameter {
-                    state: ParameterState::Idle { value: target },
-                    raw_value: value,
-                    previous_raw_value: previous,
-                    stagnant: true,
-                },
-                just_finished_tween: true,
-            }
-        } else {
-            ParameterUpdate {
-                parameter: Parameter {
-                    state: ParameterState::Tweening {
-                        start,
-                        target,
-                        time,
-                        tween,
-                    },
-                    raw_value: value,
-                    previous_raw_value: previous,
-                    stagnant: self.stagnant,
-                },
-                just_finished_tween: false,
-            }
+            self.state = ParameterState::Idle { value: target };
+            self.stagnant = true;
+            return true;
         }
+        self.state = ParameterState::Tweening {
+            start,
+            target,
+            time,
+            tween,
+        };
+        false
     }
 
     // kira's calculate_new_raw_value, with the value now where it has none.
-    fn new_raw_value(self) -> Decibels
-        ensures { result ≡ new_raw_value self }
+    #[tactic(auto, unfolding(crate::specs::Parameter::new_raw_value, crate::specs::Parameter::value_in))]
+    fn new_raw_value(&self) -> Decibels
+        ensures { result ≡ new_raw_value self.now }
     {
-        let state = self.state;
-        match state {
+        match self.state {
             ParameterState::Idle { value } => value,
             ParameterState::Tweening {
                 start,
@@ -226,53 +169,23 @@ impl Parameter {
     }
 }
 
-// Whether a tween has started, and what it still has to wait for.
-fn start_tween(tween: Tween, dt: f64, clocks: Clocks) -> TweenStart
+// Answers whether a tween has started. One that has not waits on.
+#[tactic(auto, unfolding(crate::specs::Parameter::tween_start, crate::specs::Parameter::started_at, crate::specs::Parameter::is_now))]
+fn start_tween(tween: &mut Tween, dt: f64, clocks: &Clocks) -> bool
     requires in_an_hour { InAnHour dt }
-    requires clocks_fit { clocks.count ≤ 8 }
-    ensures { result ≡ tween_start tween dt clocks }
+    requires clocks_fit { clocks.now.count ≤ 8 }
+    ensures tween { tween.new ≡ (tween_start tween.old dt clocks.now).tween }
+    ensures started { result ≡ (tween_start tween.old dt clocks.now).started }
 {
-    let start_time = tween.start_time;
-    match start_time {
-        StartTime::Immediate => TweenStart {
-            tween,
-            started: true,
-        },
+    match tween.start_time {
+        StartTime::Immediate => true,
         StartTime::Delayed(time_remaining) => {
             if time_remaining == 0 {
-                TweenStart {
-                    tween,
-                    started: true,
-                }
-            } else {
-                let left = tween::delay_left(time_remaining, dt);
-                let easing = tween.easing;
-                TweenStart {
-                    tween: Tween {
-                        start_time: StartTime::Delayed(left),
-                        duration: tween.duration,
-                        easing,
-                    },
-                    started: false,
-                }
+                return true;
             }
+            tween.start_time = StartTime::Delayed(tween::delay_left(time_remaining, dt));
+            false
         }
-        StartTime::ClockTime(time) => {
-            let when = clocks.when_to_start(time);
-            match when {
-                WhenToStart::Now => TweenStart {
-                    tween,
-                    started: true,
-                },
-                WhenToStart::Later => TweenStart {
-                    tween,
-                    started: false,
-                },
-                WhenToStart::Never => TweenStart {
-                    tween,
-                    started: false,
-                },
-            }
-        }
+        StartTime::ClockTime(time) => matches!(clocks.when_to_start(time), WhenToStart::Now),
     }
 }

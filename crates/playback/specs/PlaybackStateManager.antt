@@ -5,14 +5,12 @@ use Rattle.decibels.specs.declared.decibels.Decibels.{Decibels}
 use Rattle.decibels.specs.Decibels.{silence}
 use Rattle.clock.specs.declared.when_to_start.Clocks.{Clocks}
 use Rattle.tween.specs.declared.start_time.StartTime.{StartTime}
-use Rattle.tween.specs.declared.start_time.StartTimeUpdate.{StartTimeUpdate}
 use Rattle.tween.specs.declared.tween.Tween.{Tween}
-use Rattle.tween.specs.StartTime.{is_immediate, start_time_update}
+use Rattle.tween.specs.StartTime.{StartTimeUpdate, is_immediate, start_time_update}
 use Rattle.parameter.specs.declared.parameter.Parameter.{Parameter}
 use Rattle.playback.specs.declared.playback_state_manager.PlaybackState.{PlaybackState}
 use Rattle.playback.specs.declared.playback_state_manager.PlaybackState.TheVariants.{Playing, Pausing, Paused, WaitingToResume, Resuming, Stopping, Stopped}
 use Rattle.playback.specs.declared.playback_state_manager.PlaybackStateManager.{PlaybackStateManager}
-use Rattle.playback.specs.declared.playback_state_manager.PlaybackUpdate.{PlaybackUpdate}
 use Rattle.parameter.specs.Parameter.{parameter_new, interpolated_value, parameter_set, parameter_update}
 
 unfoldable pub is_advancing : PlaybackState → Bool
@@ -58,6 +56,11 @@ resumed_at start fade tween = cond (is_immediate start) (resumed fade tween) (re
 
 unfoldable pub playback_resume : PlaybackStateManager → StartTime → Tween → PlaybackStateManager
 playback_resume m start tween = cond (is_stopped m.state) m (resumed_at start m.volume_fade tween)
+
+-- a manager after an update, and whether that changed its state
+pub record PlaybackUpdate : Type 0 where
+  pub manager : PlaybackStateManager
+  pub changed_playback_state : Bool
 
 -- `update`: the fade moves first
 abbrev pub unchanged : PlaybackState → Parameter → PlaybackUpdate

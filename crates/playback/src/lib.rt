@@ -3,6 +3,4 @@
 
 mod playback_state_manager;
 
-pub use playback_state_manager::{
-    PlaybackState, PlaybackStateManager, PlaybackUpdate, update_state,
-};
+pub use playback_state_manager::{PlaybackState, PlaybackStateManager};

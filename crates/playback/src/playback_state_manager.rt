@@ -3,7 +3,7 @@
 ghost use Rattle.std.specs.Prelude.{◌≡◌, ◌≤◌};
 ghost use Rattle.rounding.specs.Duration.{InAnHour};
 ghost use Rattle.playback.specs.PlaybackStateManager.{is_advancing, is_stopped, playback_new, interpolated_fade_volume, playback_pause, resumed};
-ghost use Rattle.playback.specs.PlaybackStateManager.{playback_resume, unchanged, after_fade, waiting_update, state_update, playback_update};
+ghost use Rattle.playback.specs.PlaybackStateManager.{playback_resume, after_fade, waiting_update, state_update, playback_update};
 ghost use Rattle.tween.specs.StartTime.{start_time_update};
 
 use clock::Clocks;
@@ -33,6 +33,7 @@ pub enum PlaybackState {
 
 impl PlaybackState {
     // Whether sounds move on.
+    #[tactic(auto, unfolding(crate::specs::PlaybackStateManager::is_advancing))]
     pub fn is_advancing(self) -> bool
         ensures { result ≡ is_advancing self }
     {
@@ -50,21 +51,11 @@ impl PlaybackState {
         }
     }
 
+    #[tactic(auto, unfolding(crate::specs::PlaybackStateManager::is_stopped))]
     fn is_stopped(self) -> bool
         ensures { result ≡ is_stopped self }
     {
-        match self {
-            PlaybackState::Playing => false,
-            PlaybackState::Pausing => false,
-            PlaybackState::Paused => false,
-            PlaybackState::WaitingToResume {
-                start_time: _,
-                fade_in_tween: _,
-            } => false,
-            PlaybackState::Resuming => false,
-            PlaybackState::Stopping => false,
-            PlaybackState::Stopped => true,
-        }
+        matches!(self, PlaybackState::Stopped)
     }
 }
 
@@ -72,13 +63,6 @@ impl PlaybackState {
 pub struct PlaybackStateManager {
     pub state: PlaybackState,
     pub volume_fade: Parameter,
-}
-
-// A manager after an update, and whether that changed its state.
-#[derive(Clone, Copy)]
-pub struct PlaybackUpdate {
-    pub manager: PlaybackStateManager,
-    pub changed_playback_state: bool,
 }
 
 impl PlaybackStateManager {
@@ -91,6 +75,7 @@ impl PlaybackStateManager {
         }
     }
 
+    #[tactic(auto, unfolding(crate::specs::PlaybackStateManager::interpolated_fade_volume))]
     pub fn interpolated_fade_volume(self, amount: f64) -> Decibels
         ensures { result ≡ interpolated_fade_volume self amount }
     {
@@ -98,166 +83,107 @@ impl PlaybackStateManager {
         fade.interpolated_value(amount)
     }
 
-    pub fn pause(self, tween: Tween) -> PlaybackStateManager
-        ensures { result ≡ playback_pause self tween }
+    #[tactic(auto, unfolding(crate::specs::PlaybackStateManager::playback_pause))]
+    pub fn pause(&mut self, tween: Tween)
+        ensures { self.new ≡ playback_pause self.old tween }
     {
-        let state = self.state;
-        if state.is_stopped() {
-            return self;
+        if self.state.is_stopped() {
+            return;
         }
-        let fade = self.volume_fade;
-        PlaybackStateManager {
-            state: PlaybackState::Pausing,
-            volume_fade: fade.set(Decibels(SILENCE), tween),
-        }
+        self.state = PlaybackState::Pausing;
+        self.volume_fade.set(Decibels(SILENCE), tween);
     }
 
-    pub fn resume(self, start: StartTime, tween: Tween) -> PlaybackStateManager
-        ensures { result ≡ playback_resume self start tween }
+    #[tactic(auto, unfolding(crate::specs::PlaybackStateManager::playback_resume, crate::specs::PlaybackStateManager::resumed_at))]
+    pub fn resume(&mut self, start: StartTime, tween: Tween)
+        ensures { self.new ≡ playback_resume self.old start tween }
     {
-        let state = self.state;
-        if state.is_stopped() {
-            return self;
+        if self.state.is_stopped() {
+            return;
         }
-        let fade = self.volume_fade;
         if start.is_immediate() {
-            resume_fade(fade, tween)
+            self.resume_fade(tween);
         } else {
-            PlaybackStateManager {
-                state: PlaybackState::WaitingToResume {
-                    start_time: start,
-                    fade_in_tween: tween,
-                },
-                volume_fade: fade,
-            }
+            self.state = PlaybackState::WaitingToResume {
+                start_time: start,
+                fade_in_tween: tween,
+            };
         }
     }
 
-    pub fn update(self, dt: f64, clocks: Clocks) -> PlaybackUpdate
-        requires in_an_hour { InAnHour dt }
-        requires clocks_fit { clocks.count ≤ 8 }
-        ensures { result ≡ playback_update self dt clocks }
+    fn resume_fade(&mut self, tween: Tween)
+        ensures { self.new ≡ resumed self.old.volume_fade tween }
     {
-        let fade = self.volume_fade;
-        let faded = fade.update(dt, clocks);
-        let state = self.state;
-        let fade = faded.parameter;
-        update_state(state, fade, faded.just_finished_tween, dt, clocks)
+        self.state = PlaybackState::Resuming;
+        self.volume_fade.set(Decibels(IDENTITY), tween);
     }
-}
 
-// The state after an update of the fade, and whether the fade ended with that.
-pub fn update_state(
-    state: PlaybackState,
-    fade: Parameter,
-    finished: bool,
-    dt: f64,
-    clocks: Clocks,
-) -> PlaybackUpdate
-    requires in_an_hour { InAnHour dt }
-    requires clocks_fit { clocks.count ≤ 8 }
-    ensures { result ≡ state_update state fade finished dt clocks }
-{
-    match state {
-        PlaybackState::Playing => stays(PlaybackState::Playing, fade),
-        PlaybackState::Pausing => ends(
-            finished,
-            PlaybackState::Pausing,
-            PlaybackState::Paused,
-            fade,
-        ),
-        PlaybackState::Paused => stays(PlaybackState::Paused, fade),
-        PlaybackState::WaitingToResume {
-            start_time,
-            fade_in_tween,
-        } => wait(start_time, fade_in_tween, fade, dt, clocks),
-        PlaybackState::Resuming => ends(
-            finished,
-            PlaybackState::Resuming,
-            PlaybackState::Playing,
-            fade,
-        ),
-        PlaybackState::Stopping => ends(
-            finished,
-            PlaybackState::Stopping,
-            PlaybackState::Stopped,
-            fade,
-        ),
-        PlaybackState::Stopped => stays(PlaybackState::Stopped, fade),
+    // Answers whether that changed its state.
+    #[tactic(auto, unfolding(crate::specs::PlaybackStateManager::playback_update))]
+    pub fn update(&mut self, dt: f64, clocks: &Clocks) -> bool
+        requires in_an_hour { InAnHour dt }
+        requires clocks_fit { clocks.now.count ≤ 8 }
+        ensures manager { self.new ≡ (playback_update self.old dt clocks.now).manager }
+        ensures changed { result ≡ (playback_update self.old dt clocks.now).changed_playback_state }
+    {
+        let finished = self.volume_fade.update(dt, clocks);
+        self.update_state(finished, dt, clocks)
     }
-}
 
-fn stays(state: PlaybackState, fade: Parameter) -> PlaybackUpdate
-    ensures { result ≡ unchanged state fade }
-{
-    PlaybackUpdate {
-        manager: PlaybackStateManager {
-            state,
-            volume_fade: fade,
-        },
-        changed_playback_state: false,
-    }
-}
-
-// A state that is left for the next one where the fade has ended.
-fn ends(
-    finished: bool,
-    state: PlaybackState,
-    next: PlaybackState,
-    fade: Parameter,
-) -> PlaybackUpdate
-    ensures { result ≡ after_fade finished state next fade }
-{
-    if finished {
-        PlaybackUpdate {
-            manager: PlaybackStateManager {
-                state: next,
-                volume_fade: fade,
-            },
-            changed_playback_state: true,
-        }
-    } else {
-        stays(state, fade)
-    }
-}
-
-fn wait(start: StartTime, tween: Tween, fade: Parameter, dt: f64, clocks: Clocks) -> PlaybackUpdate
-    requires in_an_hour { InAnHour dt }
-    requires clocks_fit { clocks.count ≤ 8 }
-    ensures { result ≡ waiting_update (start_time_update start dt clocks) tween fade }
-{
-    let updated = start.update(dt, clocks);
-    if updated.will_never_start {
-        return PlaybackUpdate {
-            manager: PlaybackStateManager {
-                state: PlaybackState::Stopped,
-                volume_fade: fade,
-            },
-            changed_playback_state: true,
-        };
-    }
-    let start_time = updated.start_time;
-    if start_time.is_immediate() {
-        PlaybackUpdate {
-            manager: resume_fade(fade, tween),
-            changed_playback_state: true,
-        }
-    } else {
-        stays(
+    // Its fade has moved, and ended or not.
+    #[tactic(auto, unfolding(crate::specs::PlaybackStateManager::state_update))]
+    fn update_state(&mut self, finished: bool, dt: f64, clocks: &Clocks) -> bool
+        requires in_an_hour { InAnHour dt }
+        requires clocks_fit { clocks.now.count ≤ 8 }
+        ensures manager { self.new ≡ (state_update self.old.state self.old.volume_fade finished dt clocks.now).manager }
+        ensures changed { result ≡ (state_update self.old.state self.old.volume_fade finished dt clocks.now).changed_playback_state }
+    {
+        match self.state {
+            PlaybackState::Playing => false,
+            PlaybackState::Pausing => self.end_fade(finished, PlaybackState::Paused),
+            PlaybackState::Paused => false,
             PlaybackState::WaitingToResume {
                 start_time,
-                fade_in_tween: tween,
-            },
-            fade,
-        )
+                fade_in_tween,
+            } => self.wait(start_time, fade_in_tween, dt, clocks),
+            PlaybackState::Resuming => self.end_fade(finished, PlaybackState::Playing),
+            PlaybackState::Stopping => self.end_fade(finished, PlaybackState::Stopped),
+            PlaybackState::Stopped => false,
+        }
     }
-}
 
-fn resume_fade(fade: Parameter, tween: Tween) -> PlaybackStateManager
-    ensures { result ≡ resumed fade tween }
-{
-    PlaybackStateManager {
-        state: PlaybackState::Resuming,
-        volume_fade: fade.set(Decibels(IDENTITY), tween),
+    // The state is left for the next one where the fade has ended.
+    #[tactic(auto, unfolding(crate::specs::PlaybackStateManager::after_fade))]
+    fn end_fade(&mut self, finished: bool, next: PlaybackState) -> bool
+        ensures manager { self.new ≡ (after_fade finished self.old.state next self.old.volume_fade).manager }
+        ensures changed { result ≡ (after_fade finished self.old.state next self.old.volume_fade).changed_playback_state }
+    {
+        if finished {
+            self.state = next;
+        }
+        finished
+    }
+
+    #[tactic(auto, unfolding(crate::specs::PlaybackStateManager::waiting_update, crate::specs::PlaybackStateManager::waited_until))]
+    fn wait(&mut self, start: StartTime, tween: Tween, dt: f64, clocks: &Clocks) -> bool
+        requires in_an_hour { InAnHour dt }
+        requires clocks_fit { clocks.now.count ≤ 8 }
+        ensures manager { self.new ≡ (waiting_update (start_time_update start dt clocks.now) tween self.old.volume_fade).manager }
+        ensures changed { result ≡ (waiting_update (start_time_update start dt clocks.now) tween self.old.volume_fade).changed_playback_state }
+    {
+        let mut start_time = start;
+        if start_time.update(dt, clocks) {
+            self.state = PlaybackState::Stopped;
+            return true;
+        }
+        if start_time.is_immediate() {
+            self.resume_fade(tween);
+            return true;
+        }
+        self.state = PlaybackState::WaitingToResume {
+            start_time,
+            fade_in_tween: tween,
+        };
+        false
     }
 }

@@ -7,7 +7,6 @@ use Rattle.clock.specs.declared.when_to_start.WhenToStart.TheVariants.{Now, Late
 use Rattle.clock.specs.WhenToStart.{when_to_start}
 use Rattle.tween.specs.declared.start_time.StartTime.{StartTime}
 use Rattle.tween.specs.declared.start_time.StartTime.TheVariants.{Immediate, Delayed, ClockTime}
-use Rattle.tween.specs.declared.start_time.StartTimeUpdate.{StartTimeUpdate}
 use Rattle.clock.specs.declared.clock_time.ClockTime as time
 
 unfoldable pub is_immediate : StartTime → Bool
@@ -22,6 +21,11 @@ delay_left remaining dt = remaining - nanos_from_secs dt
 -- no delay is no waiting
 unfoldable pub after_delay : ℕ → StartTime
 after_delay left = cond (eqb left 0) Immediate (Delayed left)
+
+-- after an update: the start time, and whether it will never come
+pub record StartTimeUpdate : Type 0 where
+  pub start_time : StartTime
+  pub will_never_start : Bool
 
 unfoldable pub at_clock_time : time.ClockTime → WhenToStart → StartTimeUpdate
 at_clock_time t Now = record { start_time = Immediate; will_never_start = false }

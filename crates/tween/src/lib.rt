@@ -4,6 +4,6 @@
 mod start_time;
 mod tween;
 
-pub use start_time::{StartTime, StartTimeUpdate, delay_left};
+pub use start_time::{StartTime, delay_left};
 pub use tween::tweenable::interpolate;
 pub use tween::{Easing, Tween};

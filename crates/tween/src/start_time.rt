@@ -15,70 +15,48 @@ pub enum StartTime {
     ClockTime(ClockTime),
 }
 
-#[derive(Clone, Copy)]
-pub struct StartTimeUpdate {
-    pub start_time: StartTime,
-    pub will_never_start: bool,
-}
-
 impl StartTime {
     // `self == StartTime::Immediate`.
+    #[tactic(auto, unfolding(crate::specs::StartTime::is_immediate))]
     pub fn is_immediate(self) -> bool
         ensures { result ≡ is_immediate self }
     {
-        match self {
-            StartTime::Immediate => true,
-            StartTime::Delayed(_) => false,
-            StartTime::ClockTime(_) => false,
-        }
+        matches!(self, StartTime::Immediate)
     }
 
-    pub fn update(self, dt: f64, clocks: Clocks) -> StartTimeUpdate
+    // Answers whether it will never start.
+    #[tactic(auto, unfolding(crate::specs::StartTime::start_time_update, crate::specs::StartTime::at_clock_time, crate::specs::StartTime::after_delay))]
+    pub fn update(&mut self, dt: f64, clocks: &Clocks) -> bool
         requires in_an_hour { InAnHour dt }
-        requires clocks_fit { clocks.count ≤ 8 }
-        ensures { result ≡ start_time_update self dt clocks }
+        requires clocks_fit { clocks.now.count ≤ 8 }
+        ensures start_time { self.new ≡ (start_time_update self.old dt clocks.now).start_time }
+        ensures never { result ≡ (start_time_update self.old dt clocks.now).will_never_start }
     {
-        match self {
-            StartTime::Immediate => StartTimeUpdate {
-                start_time: StartTime::Immediate,
-                will_never_start: false,
-            },
+        match *self {
+            StartTime::Immediate => false,
             StartTime::Delayed(time_remaining) => {
                 let left = delay_left(time_remaining, dt);
                 if left == 0 {
-                    StartTimeUpdate {
-                        start_time: StartTime::Immediate,
-                        will_never_start: false,
-                    }
+                    *self = StartTime::Immediate;
                 } else {
-                    StartTimeUpdate {
-                        start_time: StartTime::Delayed(left),
-                        will_never_start: false,
-                    }
+                    *self = StartTime::Delayed(left);
                 }
+                false
             }
-            StartTime::ClockTime(time) => {
-                let when = clocks.when_to_start(time);
-                match when {
-                    WhenToStart::Now => StartTimeUpdate {
-                        start_time: StartTime::Immediate,
-                        will_never_start: false,
-                    },
-                    WhenToStart::Later => StartTimeUpdate {
-                        start_time: StartTime::ClockTime(time),
-                        will_never_start: false,
-                    },
-                    WhenToStart::Never => StartTimeUpdate {
-                        start_time: StartTime::ClockTime(time),
-                        will_never_start: true,
-                    },
+            StartTime::ClockTime(time) => match clocks.when_to_start(time) {
+                WhenToStart::Now => {
+                    *self = StartTime::Immediate;
+                    false
                 }
-            }
+                WhenToStart::Later => false,
+                WhenToStart::Never => true,
+            },
         }
     }
 }
 
 // `Duration::saturating_sub` of so many seconds from a delay.
+#[tactic(auto, unfolding(crate::specs::StartTime::delay_left))]
 pub fn delay_left(remaining: u64, dt: f64) -> u64
     requires { InAnHour dt }
     ensures { result ≡ delay_left remaining dt }

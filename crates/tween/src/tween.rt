@@ -7,7 +7,7 @@ pub mod tweenable;
 use crate::start_time::StartTime;
 
 // The curve of a tween's motion.
-#[derive(Clone, Copy)]
+#[derive(Clone, Copy, PartialEq, Eq, Debug)]
 pub enum Easing {
     Linear,
     InPowi(u32),
@@ -16,6 +16,7 @@ pub enum Easing {
 }
 
 impl Easing {
+    #[tactic(auto, unfolding(crate::specs::Tween::easing_apply))]
     pub fn apply(self, x: f64) -> f64
         ensures { result ≡ easing_apply self x }
     {
@@ -67,6 +68,7 @@ pub struct Tween {
 }
 
 impl Tween {
+    #[tactic(auto, unfolding(crate::specs::Tween::tween_value))]
     pub fn value(self, time: f64) -> f64
         ensures { result ≡ tween_value self time }
     {

@@ -29,8 +29,8 @@ use Rattle.tween.proofs.laws.Tweenable.{interpolated_moves, interpolated_silent}
 use Rattle.parameter.specs.declared.parameter.ParameterState.{ParameterState}
 use Rattle.parameter.specs.declared.parameter.ParameterState.TheVariants.{Idle, Tweening}
 use Rattle.parameter.specs.declared.parameter.Parameter.{Parameter}
-use Rattle.parameter.specs.declared.parameter.ParameterUpdate.{ParameterUpdate}
-use Rattle.parameter.specs.declared.parameter.TweenStart.{TweenStart}
+use Rattle.parameter.specs.Parameter.{ParameterUpdate}
+use Rattle.parameter.specs.Parameter.{TweenStart}
 use Rattle.parameter.specs.Parameter.{parameter_new, parameter_set, started_at, tween_start, with_state, tween_move, tween_update_in, tween_update, value_in, new_raw_value, with_previous, with_new_value, parameter_update}
 use Rattle.parameter.proofs.laws.Range.{Range, value_range, Short, StateIn, ParameterIn}
 

@@ -17,7 +17,7 @@ use Rattle.tween.specs.declared.tween.Tween.{Tween}
 use Rattle.parameter.specs.declared.parameter.Parameter.{Parameter}
 use Rattle.parameter.specs.declared.parameter.ParameterState.{ParameterState}
 use Rattle.parameter.specs.declared.parameter.ParameterState.TheVariants.{Tweening}
-use Rattle.parameter.specs.declared.parameter.ParameterUpdate.{ParameterUpdate}
+use Rattle.parameter.specs.Parameter.{ParameterUpdate}
 use Rattle.parameter.specs.Parameter.{parameter_new, parameter_set, started_at, tween_start, with_state, tween_move, tween_update_in, tween_update, with_previous, with_new_value, parameter_update}
 use Rattle.playback.specs.declared.playback_state_manager.PlaybackState.{PlaybackState}
 use Rattle.playback.specs.declared.playback_state_manager.PlaybackState.TheVariants.{Pausing, Paused}

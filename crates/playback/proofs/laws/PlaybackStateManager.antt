@@ -12,7 +12,7 @@ use Rattle.laws.proofs.laws.DecibelRange.{target→value, silent→target, minus
 use Rattle.clock.specs.declared.when_to_start.Clocks.{Clocks}
 use Rattle.tween.specs.declared.start_time.StartTime.{StartTime}
 use Rattle.tween.specs.declared.start_time.StartTime.TheVariants.{Immediate}
-use Rattle.tween.specs.declared.start_time.StartTimeUpdate.{StartTimeUpdate}
+use Rattle.tween.specs.StartTime.{StartTimeUpdate}
 use Rattle.tween.specs.declared.tween.Tween.{Tween}
 use Rattle.tween.specs.StartTime.{is_immediate, start_time_update, ClockThere}
 use Rattle.tween.proofs.laws.StartTime.{Goes, start_time_goes}
@@ -20,7 +20,7 @@ use Rattle.parameter.specs.declared.parameter.Parameter.{Parameter}
 use Rattle.playback.specs.declared.playback_state_manager.PlaybackState.{PlaybackState}
 use Rattle.playback.specs.declared.playback_state_manager.PlaybackState.TheVariants.{Playing, Pausing, Paused, WaitingToResume, Resuming, Stopping, Stopped}
 use Rattle.playback.specs.declared.playback_state_manager.PlaybackStateManager.{PlaybackStateManager}
-use Rattle.playback.specs.declared.playback_state_manager.PlaybackUpdate.{PlaybackUpdate}
+use Rattle.playback.specs.PlaybackStateManager.{PlaybackUpdate}
 use Rattle.parameter.specs.Parameter.{parameter_set, parameter_update}
 use Rattle.parameter.proofs.laws.Range.{ParameterIn, value_range, Short}
 use Rattle.parameter.proofs.laws.Parameter.{new_in, set_in, update_in, set_at_once, value_kept}

@@ -12,7 +12,7 @@ use Rattle.clock.specs.WhenToStart.{when_to_start}
 use Rattle.clock.proofs.laws.Starts.{never_missing}
 use Rattle.tween.specs.declared.start_time.StartTime.{StartTime}
 use Rattle.tween.specs.declared.start_time.StartTime.TheVariants.{Immediate, Delayed, ClockTime}
-use Rattle.tween.specs.declared.start_time.StartTimeUpdate.{StartTimeUpdate}
+use Rattle.tween.specs.StartTime.{StartTimeUpdate}
 use Rattle.tween.specs.StartTime.{delay_left, after_delay, at_clock_time, start_time_update, ClockThere}
 use Rattle.clock.specs.declared.clock_time.ClockTime as time
 

@@ -1,12 +1,12 @@
 use mathlib.Core.Path.{◌≡◌}
 use mathlib.Core.List.{List}
-use Prim.Native.Nat.{ℕ, ◌-◌, ◌≤◌}
+use Prim.Native.Nat.{ℕ}
 use lib.ListN.{get_or, replicate}
-use Rattle.limits.specs.Limits.{track_lines, track_places}
+use Rattle.limits.specs.Limits.{track_places}
 use Rattle.laws.specs.Loop.{changed}
 use Rattle.scene.specs.declared.scene.TrackLine.{TrackLine}
-use Rattle.mixer.specs.Mixer.{empty_track}
 use Rattle.mixer.specs.declared.sub.Track.{Track}
+use Rattle.mixer.specs.Mixer.{empty_track}
 use Rattle.mixer.specs.Sub.{track_new}
 use Rattle.accepted.specs.Lines.{absent_track_line}
 use Rattle.mixer.proofs.mixer.new_tracks.Given as goal
@@ -15,7 +15,4 @@ abbrev pub made : List TrackLine → ℕ → Track → Track
 made lines t x = track_new (get_or lines t absent_track_line).volume
 
 abbrev pub invariant-loop-t : goal.invariant-loop-t
-invariant-loop-t l = (l.t ≤ l.count) × (l.count ≤ track_lines) × (l.tracks ≡ changed (made l.lines) l.t (replicate track_places empty_track))
-
-abbrev pub decreases-loop-t : goal.decreases-loop-t
-decreases-loop-t l = l.count - l.t
+invariant-loop-t l = l.tracks ≡ changed (made l.scene.tracks) l.t (replicate track_places empty_track)

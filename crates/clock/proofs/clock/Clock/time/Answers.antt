@@ -11,9 +11,3 @@ unfolding time_of of_bits of_int
 returns-in-NotStarted c =
     let clock = c.args.clock in
     ap {B = ClockTime} (λ (s : ClockState). record { clock = clock; ticks = ticks_of s; fraction = fraction_of s }) (sym c.in-NotStarted.is)
-
-pub returns-in-Started : goal.returns-in-Started
-unfolding time_of
-returns-in-Started c =
-    let clock = c.args.clock in
-    ap {B = ClockTime} (λ (s : ClockState). record { clock = clock; ticks = ticks_of s; fraction = fraction_of s }) (sym c.in-Started.is)

@@ -8,10 +8,6 @@ pub returns-in-SecondsPerTick : goal.returns-in-SecondsPerTick
 unfolding as_ticks_per_second of_bits of_int
 returns-in-SecondsPerTick c = ap as_ticks_per_second (sym c.in-SecondsPerTick.is)
 
-pub returns-in-TicksPerSecond : goal.returns-in-TicksPerSecond
-unfolding as_ticks_per_second
-returns-in-TicksPerSecond c = ap as_ticks_per_second (sym c.in-TicksPerSecond.is)
-
 pub returns-in-TicksPerMinute : goal.returns-in-TicksPerMinute
 unfolding as_ticks_per_second of_bits of_int
 returns-in-TicksPerMinute c = ap as_ticks_per_second (sym c.in-TicksPerMinute.is)

@@ -1,7 +1,7 @@
 -- `PlaybackStateManager::pause` meets its contract: the test is the definition's. Assumes nothing.
 use mathlib.Core.Path.{sym, ap, ◌∙◌}
 use lib.Ieee.{of_int, of_bits, neg}
-use Rattle.laws.proofs.laws.Choice.{cond-true, cond-false}
+use Rattle.laws.proofs.laws.Choice.{cond-false}
 use Rattle.parameter.specs.declared.parameter.Parameter.{Parameter}
 use Rattle.playback.specs.declared.playback_state_manager.PlaybackState.TheVariants.{Pausing}
 use Rattle.playback.specs.declared.playback_state_manager.PlaybackStateManager.{PlaybackStateManager}
@@ -10,10 +10,6 @@ use Rattle.playback.proofs.playback_state_manager.PlaybackStateManager.pause.Goa
 
 pausing : Parameter → PlaybackStateManager
 pausing fade = record { state = Pausing; volume_fade = fade }
-
-pub returns-then-is_stopped : goal.returns-then-is_stopped
-unfolding playback_pause
-returns-then-is_stopped c = sym (cond-true _ _ _ (sym c.is_stopped.ensures ∙ c.if-is_stopped.true))
 
 pub returns : goal.returns
 unfolding playback_pause pausing of_int of_bits neg

@@ -6,14 +6,6 @@ use Rattle.tween.specs.declared.tween.Easing.{Easing}
 use Rattle.tween.specs.Tween.{easing_apply}
 use Rattle.tween.proofs.tween.Easing.apply.Goals as goal
 
-pub returns-in-Linear : goal.returns-in-Linear
-unfolding easing_apply
-returns-in-Linear c = ap (λ (e : Easing). easing_apply e c.args.x) (sym c.in-Linear.is)
-
-pub returns-in-InPowi : goal.returns-in-InPowi
-unfolding easing_apply
-returns-in-InPowi c = c.powi.ensures ∙ ap (λ (e : Easing). easing_apply e c.args.x) (sym c.in-InPowi.is)
-
 pub returns-in-OutPowi : goal.returns-in-OutPowi
 unfolding easing_apply of_bits
 returns-in-OutPowi c = ap (sub binary64 one) c.powi-in-OutPowi.ensures ∙ ap (λ (e : Easing). easing_apply e c.args.x) (sym c.in-OutPowi.is)

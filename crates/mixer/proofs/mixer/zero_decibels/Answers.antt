@@ -1,0 +1,8 @@
+-- `mixer::zero_decibels` meets its contract. Assumes nothing.
+use mathlib.Core.Path.{refl}
+use lib.Ieee.{of_int, of_bits}
+use Rattle.mixer.proofs.mixer.zero_decibels.Goals as goal
+
+pub returns : goal.returns
+unfolding of_int of_bits
+returns c = refl
