@@ -1,2 +1,3 @@
-pub mod Cut
-pub mod Waits
+pub mod Rests
+pub mod Joined
+pub mod Still

@@ -1,6 +1,6 @@
-// A block of a scene whose mixer stands in lent arrays.
+// A block of a scene, its orders read.
 #![tactic(auto)]
 
 mod block;
 
-pub use block::render_block;
+pub use block::{BlockLength, ShowParts, render_block};

@@ -1,4 +1,1 @@
 pub mod Chunk
-pub mod Flat
-pub mod Flatten
-pub mod Written

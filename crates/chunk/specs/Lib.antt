@@ -1,3 +1,1 @@
 pub mod Chunk
-pub mod Flat
-pub mod Written

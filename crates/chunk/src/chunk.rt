@@ -128,10 +128,8 @@ pub fn parts_of(frames: usize) -> Parts
     ensures { result ≡ parts_of frames }
 {
     let mut parts = [0.0f32; CHUNK_FRAMES];
-    let mut i = 0;
-    while i < frames {
+    for i in 0..frames {
         parts[i] = rounding::f64_to_f32(amount_at(i, frames));
-        i += 1;
     }
     parts
 }

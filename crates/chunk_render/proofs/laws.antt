@@ -1,12 +1,7 @@
-pub mod Stands
 pub mod Linked
-pub mod Tables
-pub mod Kept
-pub mod Over
-pub mod Lines
-pub mod Chunk
-pub mod Updated
 pub mod Mixed
-pub mod Turn
-pub mod Nanos
+pub mod CanRender
+pub mod Clocks
 pub mod Ends
+pub mod Nanos
+pub mod Turn

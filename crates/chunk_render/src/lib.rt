@@ -1,9 +1,8 @@
-// A block of a scene whose mixer stands in lent arrays: chunk by chunk, the state moves, the mix is
-// written, and the sounds move on.
+// The chunks of a block, and how long a block is.
 #![tactic(auto)]
 
 mod chunks;
+mod length;
 
-pub use chunks::{
-    block_clocks, block_nanos, block_step, clock_ticks, move_state, process_chunks, still_head,
-};
+pub use chunks::{BlockParts, MixRoom, process_chunks, process_still_chunks, still_head};
+pub use length::{block_clocks, block_nanos, block_step, clock_ticks};

@@ -3,4 +3,4 @@
 
 mod tables;
 
-pub use tables::chunk_of;
+pub use tables::{chunk_of, put_chunk};

@@ -1,2 +1,2 @@
-pub mod State
-pub mod Update
+pub mod Lines
+pub mod Moves

@@ -1,8 +1,6 @@
-// A mixer's moving state in lent arrays, and what a chunk's update does to it.
+// How a chunk moves a mixer that is lent.
 #![tactic(auto)]
 
-mod mixer_update;
+mod moves;
 
-pub use mixer_update::{
-    FADES, MAIN_PARAMETER, ROUTE_PARAMETERS, SEND_PARAMETERS, live_below, put_manager, update,
-};
+pub use moves::{update, update_clocks, update_levels};

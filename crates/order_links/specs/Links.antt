@@ -2,6 +2,11 @@
 use Rattle.std.specs.Prelude.{List, ℕ, ◌+◌, get_or, set, replicate}
 use Rattle.limits.specs.Limits.{order_lines, blocks_most}
 use Rattle.laws.specs.Loop.{downto}
+use Rattle.scene.specs.declared.scene.OrderLine.{OrderLine}
+use Rattle.accepted.specs.Lines.{absent_order_line}
+
+abbrev pub block_of : List OrderLine → ℕ → ℕ
+block_of orders i = (get_or orders i absent_order_line).block
 
 abbrev pub links_size : ℕ
 links_size = blocks_most + order_lines

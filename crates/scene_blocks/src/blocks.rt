@@ -1,133 +1,101 @@
-// A scene's blocks, from the first to the last: each one's orders are read, and it is rendered. The mixer's state stands in arrays all along.
-ghost use Rattle.std.specs.Prelude.{◌≡◌, true, ◌-◌, ◌*◌, length};
+// A scene's blocks, from the first to the last: each one's orders are read, and it is rendered.
+ghost use Rattle.std.specs.Prelude.{◌≡◌, false, ◌*◌, ◌<◌, length};
 ghost use Rattle.recordings.specs.Recordings.{recordings};
-ghost use Rattle.limits.specs.Limits.{chunk_frames_most};
+ghost use Rattle.limits.specs.Limits.{blocks_most};
 ghost use Rattle.gain_table.specs.GainTable.{IsGainTable};
 ghost use Rattle.accepted.specs.SceneOk.{SceneOk, SamplesOk};
-ghost use Rattle.chunk.specs.Chunk.{parts_of};
-ghost use Rattle.renderer.specs.Renderer.{chunk_count, chunk_frames, rendered};
-ghost use Rattle.order_table.specs.Table.{table_of};
-ghost use Rattle.parameter_store.specs.Store.{numbers};
-ghost use Rattle.moving_mixer.specs.State.{arrays};
-ghost use Rattle.chunk_render.specs.Block.{block_head};
-ghost use Rattle.scene_blocks.specs.Show.{Begins, OrdersReady};
+ghost use Rattle.mixer.specs.Mixer.{mixer_new};
+ghost use Rattle.mixer.specs.Orders.{mixer_ordered};
+ghost use Rattle.order_links.specs.Links.{block_of, block_links};
+ghost use Rattle.mixer_orders.specs.There.{OrdersThere};
+ghost use Rattle.renderer.specs.Renderer.{rendered};
+ghost use Rattle.chunk_render.specs.Block.{LinksOfScene, PartsOf, NanosAsk, still_head};
+ghost use Rattle.block_render.specs.Still.{LengthOf};
 
-use chunk::{Amplitudes, Levels, Places};
-use clock::Clocks;
+use block_render::{BlockLength, ShowParts, render_block};
+use chunk::Chunk;
+use chunk_render::MixRoom;
 use gain_table::GainTable;
-use level_amplitudes::Parts;
 use limits::CHUNK_FRAMES;
-use links::Links;
+use mixer::Mixer;
 use order_links::{OrderLinks, first_line};
-use scene::Scene;
+use scene::{Head, Scene};
 use send_track::SEND_PLACES;
+use track_sounds::ChunkLinks;
 
-// Every block, from the arrays of a new mixer. Orders are read where a block has some.
+// Reads the orders of a block, and answers whether it has some.
+#[tactic(auto, using(crate::proofs::laws::Orders::none_read))]
+fn read_orders(mixer: &mut Mixer, scene: &Scene, links: &OrderLinks, block: usize) -> bool
+    requires orders_there { OrdersThere scene.now }
+    requires block_in_range { block < blocks_most }
+    requires links_of_the_orders { links.now ≡ block_links (block_of scene.now.orders) scene.now.order_count }
+    ensures state { mixer.new ≡ mixer_ordered scene.now block mixer.old }
+    ensures none { result ≡ false → mixer.new ≡ mixer.old }
+{
+    if first_line(links, block) < scene.order_count {
+        mixer_orders::on_start_processing(mixer, scene, links, block);
+        return true;
+    }
+    false
+}
+
+fn block_length(head: Head) -> BlockLength
+    requires { NanosAsk head }
+    ensures { LengthOf head result }
+{
+    let nanos = chunk_render::block_nanos(head);
+    let step = chunk_render::block_step(nanos.unwrap_or(0));
+    BlockLength { nanos, step }
+}
+
+// Every block, from the scene's new mixer.
 pub fn render_blocks<'a>(
-    places: &mut Places,
-    levels: &mut Levels,
-    amplitudes: &mut Amplitudes,
-    kinds: &mut [usize],
-    counts: &mut [u64],
-    shorts: &mut [u32],
-    values: &mut [f32],
-    times: &mut [f64],
-    clocks: Clocks,
-    scene: Scene,
-    lines: &[usize],
-    targets: &[f32],
-    line_kinds: &[usize],
-    line_counts: &[u64],
-    line_shorts: &[u32],
-    line_times: &[f64],
-    links: &OrderLinks,
-    sub_tracks: &Links,
-    sounds: &Links,
-    routes: &Links,
-    full: &Parts,
-    last: &Parts,
-    wide: &Parts,
-    rest: &Parts,
+    mixer: &mut Mixer,
+    chunk: &mut Chunk,
+    scene: &Scene,
+    orders: &OrderLinks,
+    links: &ChunkLinks,
+    parts: &ShowParts,
     table: &GainTable,
     samples: &'a [f32],
     visitor: &'a [f32],
     output: &mut [f32],
 )
     requires gain_table { IsGainTable table.now }
-    requires scene_ok { SceneOk scene }
-    requires samples_ok { SamplesOk scene (recordings samples.now visitor.now) }
-    requires state_of_a_new_mixer { Begins scene clocks
-        (arrays places.old levels.old amplitudes.old (numbers kinds.old counts.old shorts.old values.old times.old))
-        sub_tracks.now sounds.now routes.now }
-    requires parts_of_full_chunk { full.now ≡ parts_of scene.head.buffer }
-    requires parts_of_last_chunk { last.now ≡ parts_of (chunk_frames scene.head (chunk_count scene.head - 1)) }
-    requires parts_of_wide_chunk { wide.now ≡ parts_of chunk_frames_most }
-    requires parts_of_last_wide_chunk { rest.now ≡ parts_of (chunk_frames (block_head true scene.head) (chunk_count (block_head true scene.head) - 1)) }
-    requires output_sized { length output.old ≡ scene.head.block * scene.head.blocks * scene.head.channels }
-    requires orders_of_the_scene { OrdersReady scene (table_of lines.now targets.now line_kinds.now line_counts.now line_shorts.now line_times.now) links.now }
-    ensures { output.new ≡ rendered scene (recordings samples.now visitor.now) }
+    requires scene_ok { SceneOk scene.now }
+    requires samples_ok { SamplesOk scene.now (recordings samples.now visitor.now) }
+    requires state_of_a_new_mixer { mixer.old ≡ mixer_new scene.now }
+    requires links_of_the_orders { orders.now ≡ block_links (block_of scene.now.orders) scene.now.order_count }
+    requires links_of_the_scene { LinksOfScene scene.now links.now }
+    requires parts_of_the_chunks { PartsOf scene.now.head parts.now.own }
+    requires parts_of_longer_chunks { PartsOf (still_head scene.now.head) parts.now.wide }
+    requires output_sized { length output.old ≡ scene.now.head.block * scene.now.head.blocks * scene.now.head.channels }
+    ensures { output.new ≡ rendered scene.now (recordings samples.now visitor.now) }
 {
     let head = scene.head;
-    let count = scene.order_count;
-    let blocks = head.blocks;
     let width = head.block * head.channels;
-    let nanos = chunk_render::block_nanos(head);
-    let step = chunk_render::block_step(nanos);
-    let mut sends = [0.0f32; SEND_PLACES];
-    let mut mix = [0.0f32; 2 * CHUNK_FRAMES];
-    let mut moved = clocks;
-    let mut b = 0;
-    while b < blocks {
-        let ordered = first_line(links, b) < count;
-        if ordered {
-            mixer_orders::on_start_processing(
-                levels,
-                kinds,
-                counts,
-                shorts,
-                values,
-                times,
-                lines,
-                targets,
-                line_kinds,
-                line_counts,
-                line_shorts,
-                line_times,
-                links,
-                count,
-                b,
-            );
-        }
+    let length = block_length(head);
+    let mut room = MixRoom {
+        sends: [0.0; SEND_PLACES],
+        mix: [0.0; 2 * CHUNK_FRAMES],
+    };
+    for b in 0..head.blocks {
+        let ordered = read_orders(mixer, scene, orders, b);
         let from = b * width;
         let to = from + width;
-        moved = block_render::render_block(
-            places,
-            levels,
-            amplitudes,
-            kinds,
-            counts,
-            shorts,
-            values,
-            times,
+        render_block(
+            mixer,
+            chunk,
+            scene,
             ordered,
-            nanos,
-            step,
-            moved,
-            head,
-            sub_tracks,
-            sounds,
-            routes,
-            full,
-            last,
-            wide,
-            rest,
+            length,
+            links,
+            parts,
             table,
             samples,
             visitor,
-            &mut sends,
-            &mut mix,
+            &mut room,
             &mut output[from..to],
         );
-        b += 1;
     }
 }

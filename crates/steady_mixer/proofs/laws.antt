@@ -1,8 +1,6 @@
 pub mod MixerSteady
-pub mod Tests
+pub mod Asked
 pub mod Waited
 pub mod Settled
 pub mod Steady
 pub mod Lasting
-pub mod Steps
-pub mod Arrays

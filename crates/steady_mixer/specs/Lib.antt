@@ -1,2 +1,2 @@
 pub mod Steady
-pub mod Arrays
+pub mod MixerSteady

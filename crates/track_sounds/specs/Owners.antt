@@ -1,11 +1,11 @@
 -- A chunk's tracks by their parents, and its sounds by their tracks: links that are followed from the latest line on. Its routes by their tracks, from
 -- the first line on. Tracks that nothing is heard from have no links.
 use Rattle.std.specs.Prelude.{◌≡◌, Bool, true, List, ℕ, suc, ◌+◌, ◌-◌, ◌<◌, replicate}
-use Rattle.links.specs.Links.{owners, links_of, column_from}
+use Rattle.links.specs.Links.{owners, links_of}
 use Rattle.links.specs.Marks.{is_marked, owners_marked, all_above_marked, used_owner}
 use Rattle.chunk.specs.declared.chunk.Chunk.{Chunk}
 use Rattle.chunk.specs.Chunk.{track_row, route_row, sound_row}
-use Rattle.chunk.specs.Flat.{sound_tracks_from}
+use Rattle.track_sounds.specs.declared.chunk_links.ChunkLinks.{ChunkLinks}
 
 -- The tracks that are mixed, by their line counted from 1: where a sound names a track it is one of them, and so is the parent of each. The frames of
 -- any other are zeros.
@@ -36,11 +36,14 @@ pub record LinksOf (c : Chunk) (a b d : List ℕ) : Type 0 where
   pub sounds : b ≡ sound_links c
   pub routes : d ≡ route_links c
 
--- ---- the same by the columns of `places`, as it is worked out
+abbrev pub Linked : Chunk → ChunkLinks → Type 0
+Linked c l = LinksOf c l.sub_tracks l.sounds l.routes
+
+-- ---- the tracks as they are worked out
 
 -- marks of the tracks that sounds name, and of those above them
-unfoldable pub marks_of : List ℕ → ℕ → ℕ → List ℕ
-marks_of places tracks sounds = all_above_marked (column_from places 0) tracks (owners_marked (column_from places sound_tracks_from) sounds (replicate owners 0))
+unfoldable pub marks_of : Chunk → List ℕ
+marks_of c = all_above_marked (λ j. (track_row c j).parent) c.track_count (owners_marked (λ k. (sound_row c k).track) c.sound_count (replicate owners 0))
 
-unfoldable pub used_links : List ℕ → ℕ → ℕ → List ℕ
-used_links places tracks sounds = links_of (used_owner (is_marked (marks_of places tracks sounds)) (column_from places 0)) tracks
+unfoldable pub used_links : Chunk → List ℕ
+used_links c = links_of (used_parent c (is_marked (marks_of c))) c.track_count

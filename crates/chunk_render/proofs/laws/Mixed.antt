@@ -1,57 +1,39 @@
--- The code of a chunk, once the state has moved: what mixing and the sounds' moves ask of the arrays, and what they come to. Assumes nothing.
-use Rattle.std.proofs.Common.{◌≡◌, ℕ, ◌+◌, ◌*◌, ◌^◌, ◌<◌, ◌≤◌, Bool, List, length, get_or, sym, ap, ◌∙◌, subst, le_trans, le_of_eq, arith}
+-- What mixing asks of a chunk that was laid from a mixer, and what goes out. Assumes nothing.
+use Rattle.std.proofs.Common.{◌≡◌, ℕ, ◌*◌, ◌≤◌, List, length, sym, ap, ◌∙◌, subst}
 use lib.Ieee.{Float}
-use Rattle.recordings.specs.Recordings.{Recordings, recording}
-use Rattle.recordings.proofs.laws.Recordings.{Lent, lent_recording}
-use Rattle.limits.specs.Limits.{sound_lines, chunk_frames_most}
-use Rattle.clock.specs.declared.when_to_start.Clocks.{Clocks}
-use Rattle.chunk.specs.declared.chunk.ChunkSound.{ChunkSound}
-use Rattle.chunk.specs.Chunk.{ChunkOk, sound_row}
-use Rattle.chunk.specs.Flat.{sound_starts_from, sound_lefts_from, sound_count_place, places_size, sound_from, chunk_from}
-use Rattle.chunk.proofs.laws.Flat.{sound_from_lem}
+use Rattle.recordings.specs.Recordings.{Recordings}
+use Rattle.limits.specs.Limits.{chunk_frames_most}
+use Rattle.laws.specs.Pieces.{pieces}
+use Rattle.scene.specs.declared.scene.Scene.{Scene}
+use Rattle.accepted.specs.SceneOk.{SceneOk}
+use Rattle.chunk.specs.declared.chunk.Chunk.{Chunk}
+use Rattle.chunk.specs.Chunk.{ChunkOk, parts_of}
+use Rattle.frame.specs.Layout.{scratch, frame_at, with_frames}
+use Rattle.track.specs.Mix.{mixed_set}
 use Rattle.track_sounds.specs.Owners.{LinksOf}
-use Rattle.sound_advance.specs.Advance.{advanced, SoundsThere, CanAdvance}
-use Rattle.moving_mixer.specs.State.{Arrays}
-use Rattle.chunk_render.specs.Block.{mixed_samples, arrays_chunk, with_places, arrays_in, arrays_after, ChunkAsks}
+use Rattle.mixer.specs.declared.mixer.Mixer.{Mixer}
+use Rattle.mixer.specs.Mixer.{mixer_new}
+use Rattle.mixer_chunk.specs.ChunkOf.{chunk_of}
+use Rattle.renderer.proofs.laws.Lengths.{frame_piece}
+use Rattle.renderer.proofs.laws.Renderer.{mix_written}
+use Rattle.chunk_render.specs.Block.{CanMix, mixed_samples}
+use Rattle.chunk_render.proofs.laws.Linked.{links_same}
 
-sound_fits : (start left len : ℕ) → 2 * (start + left) ≤ len → len < 2 ^ 63 → start + left < 2 ^ 64
-sound_fits start left len h k = omega arith
+pub laid_mixes : {s : Scene} {samples : Recordings} {m : Mixer} {n : ℕ} {x : Chunk} → CanMix s samples m → n ≤ chunk_frames_most → x ≡ chunk_of s n m → ChunkOk x samples
+laid_mixes {s} {samples} {m} {n} ok few e = subst (λ (c : Chunk). ChunkOk c samples) (sym e) (ok.chunks n few)
 
--- sounds can move on in tables that can be mixed
-can_advance : (places : List ℕ) (levels amplitudes : List Float) (samples : Recordings) → length places ≡ places_size → ChunkOk (chunk_from places levels amplitudes) samples → SoundsThere places (get_or places sound_count_place 0) → Lent samples → CanAdvance places
-unfolding sound_from
-can_advance places levels amplitudes samples long ok there short =
-    record {
-      long = long;
-      few = ok.sounds;
-      tracks = there;
-      fits = λ k b.
-          let few : k < sound_lines = le_trans b ok.sounds in
-          sound_fits (get_or places (sound_starts_from + k) 0) (get_or places (sound_lefts_from + k) 0) (length (recording samples (sound_row (chunk_from places levels amplitudes) k).from))
-          (le_trans (le_of_eq (ap (λ (x : ChunkSound). 2 * (x.start + x.left)) (sym (sound_from_lem places levels amplitudes k few)))) (ok.held k b)) (lent_recording samples (sound_row (chunk_from places levels amplitudes) k).from short);
-    }
+module _ (s : Scene) (n : ℕ) (m : Mixer) {x : Chunk} (e : x ≡ chunk_of s n m) where
+  pub laid_frames : x.frames ≡ n
+  unfolding chunk_of
+  laid_frames = ap (λ (c : Chunk). c.frames) e
 
-module _ {still : Bool} {n : ℕ} {dt : Float} {clocks : Clocks} {a : Arrays} {samples : Recordings} {l l' l'' : List ℕ} (ask : ChunkAsks still n dt clocks a samples l l' l'') {b : Arrays} (e : b ≡ arrays_in still n dt clocks a) where
-  pub in_mixes : ChunkOk (arrays_chunk b) samples
-  in_mixes = subst (λ (x : Arrays). ChunkOk (arrays_chunk x) samples) (sym e) ask.mixes
+  pub laid_parts : {parts : List Float} → parts ≡ parts_of n → parts ≡ parts_of x.frames
+  laid_parts q = q ∙ sym (ap parts_of laid_frames)
 
-  pub in_frames : (arrays_chunk b).frames ≡ n
-  in_frames = ap (λ (x : Arrays). (arrays_chunk x).frames) e ∙ ask.frames
+  pub laid_links : SceneOk s → {a b d : List ℕ} → LinksOf (chunk_of s s.head.buffer (mixer_new s)) a b d → LinksOf x a b d
+  laid_links accepted {a} {b} {d} h = subst (λ (c : Chunk). LinksOf c a b d) (sym e) (links_same s accepted s.head.buffer n (mixer_new s) m h)
 
-  pub in_few : n ≤ chunk_frames_most
-  in_few = le_trans (le_of_eq (sym in_frames)) in_mixes.short
-
-  pub in_links : LinksOf (arrays_chunk b) l l' l''
-  in_links = subst (λ (x : Arrays). LinksOf (arrays_chunk x) l l' l'') (sym e) ask.links
-
-  pub in_advance : Lent samples → CanAdvance b.places
-  in_advance short =
-      can_advance b.places b.levels b.amplitudes samples (ap (λ (x : Arrays). length x.places) e ∙ ask.long) in_mixes
-      (subst (λ (x : Arrays). SoundsThere x.places (get_or x.places sound_count_place 0)) (sym e) ask.tracks) short
-
-  pub in_after : {places : List ℕ} → places ≡ advanced n b.places → with_places places b ≡ arrays_after still n dt clocks a
-  unfolding arrays_after
-  in_after {places} q = ap (λ (p : List ℕ). with_places p b) q ∙ ap (λ (x : Arrays). with_places (advanced n x.places) x) e
-
-  pub in_samples : (channels : ℕ) → mixed_samples channels n (arrays_chunk b) samples ≡ mixed_samples channels n (arrays_chunk (arrays_in still n dt clocks a)) samples
-  in_samples channels = ap (λ (x : Arrays). mixed_samples channels n (arrays_chunk x) samples) e
+  pub laid_samples : (samples : Recordings) (channels : ℕ) (mix₀ : List Float) {mix : List Float} → 2 * n ≤ length mix₀ → mix ≡ with_frames (scratch 0 x.frames) (mixed_set x samples) mix₀
+      → pieces (frame_piece channels (frame_at (scratch 0 n) mix)) n ≡ mixed_samples channels n (chunk_of s n m) samples
+  unfolding mixed_samples
+  laid_samples samples channels mix₀ long q = mix_written channels n x samples mix₀ laid_frames long q ∙ ap (λ (c : Chunk). mixed_samples channels n c samples) e

@@ -1,6 +1,6 @@
 -- The nanoseconds of a block, and the step of seconds that they make. Assumes nothing.
-use Rattle.std.proofs.Common.{◌≡◌, ℕ, ◌+◌, ◌*◌, ◌^◌, ◌<◌, ◌≤◌, true, false, T, ◌⊎◌, pos, sym, refl, ap, ◌∙◌, subst, inl, inr, le_trans, le_of_eq, le_refl, mul-le-mul, arith}
-use lib.Ieee.{Float, nan, inf, fin, binary64, lt, le, of_int}
+use Rattle.std.proofs.Common.{◌≡◌, ℕ, ◌+◌, ◌*◌, ◌<◌, ◌≤◌, true, T, ◌⊎◌, pos, sym, refl, ap, ◌∙◌, subst, inl, inr, le_trans, le_of_eq}
+use lib.Ieee.{Float, binary64, lt, le, of_int}
 use Rattle.limits.specs.Limits.{chunk_frames_most}
 use Rattle.rounding.specs.Duration.{InAnHour, nanos_from_secs}
 use Rattle.laws.specs.Float.{pos_zero}
@@ -8,7 +8,6 @@ use Rattle.laws.specs.Loop.{upto}
 use Rattle.laws.proofs.laws.Loop.{upto_turn, upto_zero, upto_end}
 use Rattle.laws.proofs.laws.FloatOrder.{lt→le}
 use Rattle.laws.proofs.laws.Choice.{true-T}
-use Rattle.laws.proofs.laws.Unsigned.{unsigned}
 use Rattle.clock.specs.ChunkTime.{chunk_time}
 use Rattle.scene.specs.declared.scene.Head.{Head}
 use Rattle.renderer.specs.Renderer.{chunk_count, chunk_frames}
@@ -34,10 +33,6 @@ module _ {h : Head} (ok : NanosAsk h) {k count : ℕ} (b : k < count) (all : cou
 
   pub chunk_there : k * h.buffer < h.block
   chunk_there = chunk_starts h ok.buffer.0 k inside
-
-  -- the program can count the chunks
-  pub chunk_next : k + 1 < 2 ^ 64
-  chunk_next = let more : k * 1 ≤ k * h.buffer = mul-le-mul (le_refl k) ok.buffer.0 in omega (arith, more, chunk_there, ok.block)
 
   module _ {n : ℕ} (is : n ≡ chunk_frames h k) where
     pub chunk_short : n ≤ chunk_frames_most
@@ -70,15 +65,3 @@ step_some r low high =
 pub step_none : IsStep pos_zero
 unfolding le of_int
 step_none = (record { not_below = tt; not_above = tt }, inl refl)
-
-above_unsigned : (x : Float) → T (lt pos_zero x) → T (unsigned x)
-unfolding lt
-above_unsigned nan l = absurd l
-above_unsigned (inf s) l = l
-above_unsigned (fin false m e) l = tt
-above_unsigned (fin true m e) l = absurd l
-
--- a step has no sign
-pub step_unsigned : {r : Float} → (r ≡ pos_zero) ⊎ T (lt pos_zero r) → T (unsigned r)
-step_unsigned (inl e) = subst (λ (x : Float). T (unsigned x)) (sym e) tt
-step_unsigned {r} (inr l) = above_unsigned r l

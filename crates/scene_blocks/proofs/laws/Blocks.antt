@@ -1,6 +1,5 @@
 -- A show's blocks: where each block's samples lie, and what a turn of the loop over them writes. Assumes nothing.
 use mathlib.Core.Path.{◌≡◌, refl, sym, ap, ◌∙◌, subst}
-use mathlib.Core.Bool.{true}
 use mathlib.Core.List.{List, ◌++◌}
 use Prim.Native.Nat.{ℕ, zero, suc, ◌+◌, ◌-◌, ◌*◌, ◌≤◌, ◌<◌}
 use native.Mathlib.Nat.{le_trans, le_of_eq, le_of_lt, zero-mul, mul-le-mul, mul-le-mul_right}
@@ -16,12 +15,11 @@ use Rattle.laws.proofs.laws.Pieces.{length-pieces, part_put, begun_next, begun_e
 use Rattle.scene.specs.declared.scene.Head.{Head}
 use Rattle.scene.specs.declared.scene.Scene.{Scene}
 use Rattle.accepted.specs.SceneOk.{SceneOk}
-use Rattle.chunk.specs.Chunk.{parts_of}
 use Rattle.mixer.specs.Mixer.{mixer_new}
 use Rattle.mixer.specs.Orders.{mixer_ordered}
-use Rattle.renderer.specs.Renderer.{chunk_count, chunk_frames, chunks_done, block_done, mixer_at, block_samples, rendered}
-use Rattle.renderer.proofs.laws.Lengths.{count_covers, chunk_starts, frames_most, length-block}
-use Rattle.chunk_render.specs.Block.{block_head}
+use Rattle.renderer.specs.Renderer.{chunk_count, chunks_done, block_done, mixer_at, block_samples, rendered}
+use Rattle.renderer.proofs.laws.Lengths.{count_covers, chunk_starts, length-block}
+use Rattle.chunk_render.specs.Block.{still_head}
 
 -- block b of the show
 abbrev pub show_piece : Scene → Recordings → ℕ → List Float
@@ -100,16 +98,8 @@ count_positive h some more = go (chunk_count h) (count_covers h some)
 pub last_starts : (h : Head) → 1 ≤ h.buffer → 1 ≤ h.block → {n : ℕ} → n ≡ chunk_count h → (n - 1) * h.buffer ≤ h.block
 last_starts h some more e = le_of_lt (subst (λ (n : ℕ). (n - 1) * h.buffer < h.block) (sym e) (chunk_starts h some (chunk_count h - 1) (omega (arith, count_positive h some more))))
 
--- ---- the head of longer chunks, and the parts of a block's last one
+-- ---- the head of longer chunks
 
-module _ (s : Scene) (ok : SceneOk s) {h : Head} (e : h ≡ block_head true s.head) where
-  pub wide_head : (1 ≤ h.buffer) × (h.buffer ≤ chunk_frames_most) × (1 ≤ h.block) × (h.block ≤ block_frames_most)
-  unfolding block_head
-  wide_head = subst (λ (x : Head). (1 ≤ x.buffer) × (x.buffer ≤ chunk_frames_most) × (1 ≤ x.block) × (x.block ≤ block_frames_most)) (sym e) (lit≤ tt, lit≤ tt, ok.block.0, ok.block.1)
-
-  module _ {n : ℕ} (q : n ≡ chunk_frames h (chunk_count h - 1)) where
-    pub wide_last : n ≤ chunk_frames_most
-    wide_last = le_trans (le_of_eq q) (le_trans (frames_most h (chunk_count h - 1)) wide_head.1)
-
-    pub rest_is : {parts : List Float} → parts ≡ parts_of n → parts ≡ parts_of (chunk_frames (block_head true s.head) (chunk_count (block_head true s.head) - 1))
-    rest_is p = p ∙ ap parts_of (q ∙ ap (λ (x : Head). chunk_frames x (chunk_count x - 1)) e)
+pub wide_head : (s : Scene) → SceneOk s → {h : Head} → h ≡ still_head s.head → (1 ≤ h.buffer) × (h.buffer ≤ chunk_frames_most) × (1 ≤ h.block) × (h.block ≤ block_frames_most)
+unfolding still_head
+wide_head s ok e = subst (λ (x : Head). (1 ≤ x.buffer) × (x.buffer ≤ chunk_frames_most) × (1 ≤ x.block) × (x.block ≤ block_frames_most)) (sym e) (lit≤ tt, lit≤ tt, ok.block.0, ok.block.1)

@@ -30,7 +30,7 @@ use Rattle.mixer.specs.declared.mixer.Mixer.{Mixer}
 use Rattle.mixer.specs.Mixer.{absent_track, absent_parameter, state_of, parameter_of, live_above}
 use Rattle.mixer.proofs.laws.MixerOk.{MixerOk}
 use Rattle.steady_mixer.specs.Steady.{Ahead, ahead, comes_later, same_level, motion_later, parameter_steady, state_steady, is_pausing, reached_steady, steady_where, route_steady}
-use Rattle.steady_mixer.proofs.laws.MixerSteady.{steady_track, steady_route, steady_send, mixer_steady}
+use Rattle.steady_mixer.specs.MixerSteady.{steady_track, steady_route, steady_send, mixer_steady}
 use Rattle.steady_mixer.proofs.laws.Steady.{same_flag}
 use Rattle.steady_mixer.proofs.laws.Waited.{waited_start, waited_motion, waited_where, waited_parameter, waited_state, waited_track, route_reached, waited_tracks, waited_sends, waited_routes, waited, waited_reached, waited_live, waited_advances, changed_still, track_same, parts_kept}
 

@@ -18,7 +18,7 @@ use Rattle.laws.proofs.laws.Loop.{upto_holds, changed_below}
 use Rattle.decibels.specs.declared.decibels.Decibels.{Decibels}
 use Rattle.clock.specs.declared.when_to_start.Clocks.{Clocks}
 use Rattle.clock.specs.WhenToStart.{clocks_updated}
-use Rattle.tween.specs.declared.start_time.StartTimeUpdate.{StartTimeUpdate}
+use Rattle.tween.specs.StartTime.{StartTimeUpdate}
 use Rattle.tween.specs.declared.tween.Tween.{Tween}
 use Rattle.tween.specs.StartTime.{is_immediate, start_time_update}
 use Rattle.tween.specs.Tween.{tween_value}
@@ -30,7 +30,7 @@ use Rattle.parameter.specs.Parameter.{with_previous, with_new_value, tween_updat
 use Rattle.playback.specs.declared.playback_state_manager.PlaybackState.{PlaybackState}
 use Rattle.playback.specs.declared.playback_state_manager.PlaybackState.TheVariants.{Playing, Pausing, Paused, WaitingToResume, Resuming, Stopping, Stopped}
 use Rattle.playback.specs.declared.playback_state_manager.PlaybackStateManager.{PlaybackStateManager}
-use Rattle.playback.specs.declared.playback_state_manager.PlaybackUpdate.{PlaybackUpdate}
+use Rattle.playback.specs.PlaybackStateManager.{PlaybackUpdate}
 use Rattle.playback.specs.PlaybackStateManager.{unchanged, changed_to, after_fade, resumed, waited_until, waiting_update, state_update, playback_update}
 use Rattle.scene.specs.declared.scene.Scene.{Scene}
 use Rattle.scene.specs.declared.scene.TrackLine.{TrackLine}

@@ -18,7 +18,7 @@ use Rattle.clock.specs.declared.when_to_start.WhenToStart.TheVariants.{Later}
 use Rattle.clock.specs.WhenToStart.{clocks_updated, when_to_start}
 use Rattle.tween.specs.declared.start_time.StartTime.{StartTime}
 use Rattle.tween.specs.declared.start_time.StartTime.TheVariants.{Immediate, Delayed, ClockTime}
-use Rattle.tween.specs.declared.start_time.StartTimeUpdate.{StartTimeUpdate}
+use Rattle.tween.specs.StartTime.{StartTimeUpdate}
 use Rattle.tween.specs.declared.tween.Tween.{Tween}
 use Rattle.tween.specs.StartTime.{is_immediate, delay_left, after_delay, at_clock_time, start_time_update}
 use Rattle.tween.specs.Tween.{tween_value}
@@ -33,8 +33,6 @@ use Rattle.scene_tables.specs.Bytes.{every}
 use Rattle.scene.specs.declared.scene.Scene.{Scene}
 use Rattle.scene.specs.declared.scene.TrackLine.{TrackLine}
 use Rattle.mixer.specs.Mixer.{mixer_of, absent_track, state_of, parameter_of, live_above, absent_parameter, track_step, tracks_update, updated_where, route_update, routes_update, sends_update, mixer_update}
-use Rattle.chunk.specs.declared.chunk.ChunkSound.{ChunkSound}
-use Rattle.chunk.specs.declared.chunk.Chunk.{Chunk}
 use Rattle.mixer.specs.declared.sub.Track.{Track}
 use Rattle.mixer.specs.declared.mixer.Mixer.{Mixer}
 use Rattle.laws.proofs.laws.Choice.{true-T, and_left, and_right, cond-false}
@@ -42,7 +40,7 @@ use Rattle.laws.specs.Loop.{changed}
 use Rattle.laws.proofs.laws.Loop.{upto_holds, changed_cong, changed_zero, changed_turn_any, changed_here}
 use Rattle.laws.specs.DecibelRange.{ValueRange}
 use Rattle.laws.proofs.laws.DecibelRange.{value→read, read_number}
-use Rattle.parameter.specs.declared.parameter.ParameterUpdate.{ParameterUpdate}
+use Rattle.parameter.specs.Parameter.{ParameterUpdate}
 use Rattle.parameter.specs.Parameter.{is_now, started_at, tween_start, with_state, tween_move, tween_update_in, tween_update, value_in, new_raw_value, with_previous, with_new_value, parameter_update}
 use Rattle.playback.specs.declared.playback_state_manager.PlaybackStateManager.{PlaybackStateManager}
 use Rattle.scene_tables.proofs.laws.Every.{every_at}
@@ -51,28 +49,13 @@ use Rattle.mixer.specs.Sub.{track_moved, track_still, track_update}
 use Rattle.mixer.proofs.laws.MixerOk.{MixerOk}
 use Rattle.accepted.specs.Lines.{absent_track_line, absent_route_line}
 use Rattle.steady_mixer.specs.Steady.{Ahead, ahead, comes_later, same_level, motion_later, parameter_steady, state_steady, is_pausing, fade_ahead, reached_steady, steady_where, route_steady}
-use Rattle.steady_mixer.proofs.laws.MixerSteady.{after_run, steady_track, steady_route, steady_send, mixer_steady}
+use Rattle.steady_mixer.specs.MixerSteady.{steady_track, steady_route, steady_send, mixer_steady}
+use Rattle.steady_mixer.proofs.laws.MixerSteady.{after_run}
 use Rattle.steady_mixer.proofs.laws.Waited.{waited_start, waited_tween, waited_motion, waited_where, waited_parameter, waited_state, waited_track, route_reached, waited_tracks, waited_sends, waited_routes, waited, waited_reached, waited_live, waited_advances}
 use Rattle.steady_mixer.proofs.laws.Settled.{Settled, SettledTrack, SettledMixer}
 
 unfoldable pub with_clocks : Clocks → Mixer → Mixer
 with_clocks clocks m = after_run clocks m.played m
-
--- a chunk with other sounds
-unfoldable pub with_played : List ChunkSound → Chunk → Chunk
-with_played sounds c =
-    record {
-      frames = c.frames;
-      track_count = c.track_count;
-      tracks = c.tracks;
-      send_count = c.send_count;
-      sends = c.sends;
-      route_count = c.route_count;
-      routes = c.routes;
-      sound_count = c.sound_count;
-      sounds = sounds;
-      main = c.main;
-    }
 
 -- a track's values are numbers
 abbrev TrackIn : Track → Type 0

@@ -23,7 +23,8 @@ use Rattle.mixer_chunk.specs.ChunkOf.{chunk_of}
 use Rattle.mixer_laws.proofs.laws.Mixes.{chunk_ok}
 use Rattle.renderer.specs.Renderer.{chunk_count, chunk_frames, in_chunk, chunks_done, channels_of, chunk_samples, block_samples}
 use Rattle.renderer.proofs.laws.Renderer.{chunk_seconds, few_frames, chunks_ok}
-use Rattle.steady_mixer.proofs.laws.MixerSteady.{mixer_steady, after_run}
+use Rattle.steady_mixer.specs.MixerSteady.{mixer_steady}
+use Rattle.steady_mixer.proofs.laws.MixerSteady.{after_run}
 use Rattle.steady_mixer.specs.Steady.{Ahead}
 use Rattle.steady_mixer.proofs.laws.Steady.{with_clocks}
 use Rattle.steady_mixer.proofs.laws.Waited.{waited}

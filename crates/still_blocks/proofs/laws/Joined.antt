@@ -17,7 +17,7 @@ use Rattle.mixer.specs.declared.mixer.Mixer.{Mixer}
 use Rattle.mixer.proofs.laws.MixerOk.{MixerOk}
 use Rattle.mixer_chunk.specs.ChunkOf.{chunk_of}
 use Rattle.steady_mixer.specs.Steady.{Ahead}
-use Rattle.steady_mixer.proofs.laws.MixerSteady.{mixer_steady}
+use Rattle.steady_mixer.specs.MixerSteady.{mixer_steady}
 
 abbrev pub joined_head : Head → Head
 joined_head h = record { rate = h.rate; channels = h.channels; buffer = chunk_frames_most; block = h.block; blocks = h.blocks; volume = h.volume }

@@ -36,7 +36,8 @@ use Rattle.mixer_chunk.specs.ChunkOf.{level_of, chunk_track, chunk_route, empty_
 use Rattle.renderer.specs.Renderer.{chunk_count, chunk_frames, in_chunk, chunk_done, chunks_done}
 use Rattle.renderer.proofs.laws.Renderer.{chunk_seconds, chunk_done_ok}
 use Rattle.steady_mixer.specs.Steady.{Ahead, ahead}
-use Rattle.steady_mixer.proofs.laws.MixerSteady.{mixer_steady, after_run}
+use Rattle.steady_mixer.specs.MixerSteady.{mixer_steady}
+use Rattle.steady_mixer.proofs.laws.MixerSteady.{after_run}
 use Rattle.steady_mixer.proofs.laws.Waited.{waited_where, waited_parameter, waited_track, route_reached, waited_tracks, waited_sends, waited_routes, waited, field_kept, waited_live, waited_twice, waited_none}
 use Rattle.steady_mixer.proofs.laws.Settled.{SettledMixer, update_settles}
 use Rattle.steady_mixer.proofs.laws.Steady.{with_clocks, EndsAfter, still_update}

@@ -31,7 +31,7 @@ use Rattle.mixer.specs.declared.mixer.Mixer.{Mixer}
 use Rattle.mixer.specs.Mixer.{state_of, parameter_of, live_above}
 use Rattle.mixer.proofs.laws.MixerOk.{MixerOk}
 use Rattle.mixer_chunk.specs.ChunkOf.{level_of, chunk_track, chunk_sound, empty_level, empty_track_row, empty_sound_row, chunk_tracks, chunk_sends, chunk_sounds, chunk_of}
-use Rattle.steady_mixer.proofs.laws.MixerSteady.{steady_track, steady_route, steady_send, mixer_steady}
+use Rattle.steady_mixer.specs.MixerSteady.{steady_track, steady_route, steady_send, mixer_steady}
 use Rattle.steady_mixer.specs.Steady.{Ahead, fade_ahead, same_level, parameter_steady, state_steady, reached_steady, steady_where}
 use Rattle.still_chunks.proofs.laws.Chunks.{StillChunk}
 

@@ -1,16 +1,13 @@
--- A loop that follows the links of a track's routes, which are counted from the end: `RoutesLeft` is its invariant. Then where the parts of two send
--- tracks stand. Assumes nothing.
+-- A loop that follows the links of a track's routes, which are counted from the end: `RoutesLeft` is its invariant. Assumes nothing.
 use mathlib.Core.Path.{◌≡◌, sym, ap, ◌∙◌, subst}
-use mathlib.Core.Logic.{◌⊎◌, inl, inr}
 use mathlib.Core.List.{List}
-use Prim.Native.Nat.{ℕ, ◌+◌, ◌-◌, ◌*◌, ◌≤◌, ◌<◌}
+use Prim.Native.Nat.{ℕ, ◌+◌, ◌-◌, ◌≤◌, ◌<◌}
 use native.Mathlib.Nat.{le_trans}
 use native.Mathlib.Omega.{arith}
 use lib.ListN.{length}
 use lib.Ieee.{Float}
 use Rattle.recordings.specs.Recordings.{Recordings}
-use Rattle.limits.specs.Limits.{track_places, send_lines, chunk_frames_most}
-use Rattle.laws.proofs.laws.FloatRound.{below_or_not}
+use Rattle.limits.specs.Limits.{track_places, send_lines}
 use Rattle.frame.specs.declared.frame.Frame.{Frame}
 use Rattle.frame.specs.Frame.{added_scaled}
 use Rattle.frame.specs.Layout.{with_frames}
@@ -19,7 +16,7 @@ use Rattle.chunk.specs.declared.chunk.ChunkRoute.{ChunkRoute}
 use Rattle.chunk.specs.Chunk.{ChunkOk, route_row}
 use Rattle.links.specs.Links.{last_line, line_before}
 use Rattle.track_sounds.specs.Owners.{route_links}
-use Rattle.send_track.specs.Send.{send_part, send_places, send_layout, on_sends}
+use Rattle.send_track.specs.Send.{send_places, send_layout, on_sends}
 use Rattle.track.specs.Sub.{with_routes_from}
 use Rattle.send_track.proofs.laws.Send.{all_sends, sends_steps}
 use Rattle.track_sounds.proofs.laws.Owners.{Follows, Skips, follow_start, follow_less, follow_turn, follow_done}
@@ -70,10 +67,3 @@ pub route_sent : (c : Chunk) (samples : Recordings) (r : ℕ) {route : ChunkRout
 route_sent c samples r ok h few read =
     let there = ok.routed (c.route_count - r) (omega (arith, h, few)) in
     subst (λ (x : ChunkRoute). (1 ≤ x.send) × (x.send ≤ send_lines)) (sym read) (there.0, le_trans there.1 ok.sends)
-
--- send track t's part begins no later than that of s, or where that has ended
-pub parts_order : (s t n : ℕ) → 1 ≤ s → n ≤ chunk_frames_most → ((t - 1) * send_part ≤ (s - 1) * send_part) ⊎ ((s - 1) * send_part + 2 * n ≤ (t - 1) * send_part)
-parts_order s t n h short = elim (below_or_not s t) [
-  | inl b ↦ inr (omega (arith, b, h, short))
-  | inr b ↦ inl (omega (arith, b))
-]

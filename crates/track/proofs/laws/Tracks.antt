@@ -10,6 +10,8 @@ use lib.Ieee.{Float}
 use Rattle.recordings.specs.Recordings.{Recordings}
 use Rattle.limits.specs.Limits.{track_places}
 use Rattle.links.specs.Links.{owners, lines, last_line, line_before}
+use Rattle.links.specs.Walk.{Earlier}
+use Rattle.links.proofs.laws.Walk.{earlier}
 use Rattle.frame.specs.Frame.{added_from}
 use Rattle.frame.specs.Layout.{scratch, with_frames}
 use Rattle.frame.specs.Running.{AllRunning}
@@ -21,7 +23,7 @@ use Rattle.track_sounds.specs.Owners.{used_parent, SubTrackLinks}
 use Rattle.send_track.specs.Send.{send_places, on_sends, SendsRunning}
 use Rattle.track.specs.Sub.{track_frame, with_track_sends, with_sub_sends}
 use Rattle.send_track.proofs.laws.Send.{all_sends, sends_steps}
-use Rattle.track_sounds.proofs.laws.Owners.{Follows, follow_start, follow_less, follow_turn, follow_done}
+use Rattle.track_sounds.proofs.laws.Owners.{Follows, follow_start, follow_turn, follow_done}
 use Rattle.track.proofs.laws.Sub.{sub_step, sub_send, sub_sum, sub_taken, send_taken, sub_done, send_done}
 use Rattle.track.proofs.laws.Unused.{sum_skips, sends_skip}
 
@@ -36,6 +38,9 @@ below_owner : (b : Bool) (parent line : ℕ) → line ≤ track_places → cond 
 below_owner true parent line h e = e
 below_owner false parent line h e = absurd (omega (arith, h, e))
 
+pub tracks_earlier : {c : Chunk} {samples : Recordings} {links : List ℕ} → ChunkOk c samples → SubTrackLinks c links → Earlier links
+tracks_earlier {c} ok s = earlier (used_parent c s.used) c.track_count (omega (arith, ok.tracks)) s.links
+
 module _ {c : Chunk} {samples : Recordings} (ok : ChunkOk c samples) (d line : ℕ) (few : line ≤ track_places) (sum₀ sends₀ : List Float) {links : List ℕ} where
   pub tracks_begin : {j : ℕ} → SubTrackLinks c links → AllRunning c.frames sum₀ → SendsRunning c sends₀ → j ≡ last_line links line → TracksLeft c samples d line links sum₀ sends₀ sum₀ sends₀ j
   tracks_begin s run sent at =
@@ -48,9 +53,6 @@ module _ {c : Chunk} {samples : Recordings} (ok : ChunkOk c samples) (d line : �
   module _ {sum sends : List Float} {j : ℕ} (f : TracksLeft c samples d line links sum₀ sends₀ sum sends j) where
     room : c.track_count ≤ lines
     room = omega (arith, ok.tracks)
-
-    pub tracks_less : {next : ℕ} → next ≡ line_before links j → 0 < j → next < j
-    tracks_less at h = follow_less (with_frames (scratch 0 c.frames)) (sub_step d c samples line) c.track_count (used_parent c f.linked.used) line sum₀ j sum room few f.linked.links at h f.summed
 
     parent_is : 0 < j → (track_row c (j - 1)).parent ≡ line
     parent_is h = below_owner (f.linked.used (suc (j - 1))) (track_row c (j - 1)).parent line few (f.summed.own h)

@@ -22,6 +22,8 @@ use Rattle.chunk.specs.declared.chunk.Chunk.{Chunk}
 use Rattle.chunk.specs.declared.chunk.ChunkSound.{ChunkSound}
 use Rattle.chunk.specs.Chunk.{ChunkOk, sound_row}
 use Rattle.links.specs.Links.{last_line, line_before}
+use Rattle.links.specs.Walk.{Earlier}
+use Rattle.links.proofs.laws.Walk.{earlier}
 use Rattle.sound.specs.Part.{remaining_part, part_frame, added_part}
 use Rattle.sound.proofs.laws.Part.{part_frames, part_at}
 use Rattle.track_sounds.specs.Owners.{sound_links}
@@ -67,6 +69,10 @@ module _ (c : Chunk) (samples : Recordings) (ok : ChunkOk c samples) (line : ℕ
   pub sounds_begin : {k : ℕ} → k ≡ last_line links line → SoundsLeft c samples line begun begun k
   unfolding sound_links
   sounds_begin at = follow_start (with_frames (scratch 0 c.frames)) (sound_step c samples line) c.sound_count (sound_owner c) line begun (sounds_skip begun) few linked at
+
+  pub sounds_earlier : Earlier links
+  unfolding sound_links
+  sounds_earlier = earlier (sound_owner c) c.sound_count ok.sounds linked
 
   pub sounds_less : (k : ℕ) (now : List Float) {next : ℕ} → next ≡ line_before links k → 0 < k → SoundsLeft c samples line begun now k → next < k
   unfolding sound_links

@@ -1,60 +1,42 @@
--- `render_block` meets its contract: what its first calls find out says what the last one renders. Assumes nothing.
-use mathlib.Core.Path.{◌∙◌}
-use Rattle.recordings.specs.Recordings.{recordings}
-use Rattle.parameter_store.specs.Store.{numbers}
-use Rattle.moving_mixer.specs.State.{arrays}
-use Rattle.block_render.specs.Still.{block_rests}
-use Rattle.block_render.proofs.laws.Waits.{asks_moved, after_block, heard_block}
+-- `render_block` meets its contract. Assumes nothing.
+use Rattle.std.proofs.Common.{sym, ap, subst, ◌∙◌, arith}
+use Rattle.recordings.specs.Recordings.{Recordings, recordings}
+use Rattle.renderer.specs.Renderer.{block_samples}
+use Rattle.chunk_render.specs.Block.{CanPlay, CanRender, ClocksAsk, still_samples}
+use Rattle.chunk_render.proofs.laws.Clocks.{clocks_ask}
+use Rattle.chunk_render.proofs.laws.CanRender.{can_render, can_play}
 use Rattle.block_render.proofs.block.render_block.Goals as goal
 
-pub is_steady-rests-requires : goal.is_steady-rests-requires
-is_steady-rests-requires c = record { tracks_there = c.requires.block_ready.tracks; routes_there = c.requires.block_ready.routes; sends_fit = c.requires.block_ready.sends; kinds_sized = c.requires.block_ready.sized.state.kinds; counts_sized = c.requires.block_ready.sized.state.counts; values_sized = c.requires.block_ready.sized.state.values; levels_in_range = c.requires.block_ready.levels }
+pub process_still-requires-clause-can_play : goal.process_still-requires-clause-can_play
+process_still-requires-clause-can_play c =
+    let k = c.stands_still.ensures.still c.if-stands_still.true in
+    subst (λ (r : Recordings). CanPlay c.args.scene.now r c.stands_still.new.mixer) (sym c.new-heard.ensures)
+    (can_play c.args.scene.now (recordings c.args.samples.now c.args.visitor.now) c.requires.scene_ok c.requires.samples_ok (omega arith, omega arith) k.chunks c.stands_still.new.mixer k.inside)
 
-pub waits_through-waits-requires : goal.waits_through-waits-requires
-waits_through-waits-requires c = record { tracks_there = c.requires.block_ready.tracks; routes_there = c.requires.block_ready.routes; sends_fit = c.requires.block_ready.sends; kinds_sized = c.requires.block_ready.sized.state.kinds; counts_sized = c.requires.block_ready.sized.state.counts; values_sized = c.requires.block_ready.sized.state.values; levels_in_range = c.requires.block_ready.levels; in_an_hour = c.requires.block_ready.hour; clocks_can_move = c.requires.block_ready.ticks; clocks_fit = c.requires.block_ready.few }
+pub process_still-requires-clause-clocks_can_move : goal.process_still-requires-clause-clocks_can_move
+process_still-requires-clause-clocks_can_move c =
+    let r = c.requires.rendering in
+    let k = c.stands_still.ensures.still c.if-stands_still.true in
+    subst (ClocksAsk c.args.scene.now.head) (sym k.clocks) (clocks_ask c.args.scene.now c.requires.scene_ok r.chunks c.args.mixer.now r.inside r.few)
 
-pub move_state-requires : goal.move_state-requires
-move_state-requires c = record { gain_table = c.requires.gain_table; tracks_there = c.requires.block_ready.tracks; routes_there = c.requires.block_ready.routes; sends_fit = c.requires.block_ready.sends; routes_admitted = c.requires.block_ready.heard; arrays_sized = c.requires.block_ready.sized; in_an_hour = c.requires.block_ready.hour; clocks_laid_out = c.requires.block_ready.ticks.laid }
+pub returns-then-stands_still-clause-state : goal.returns-then-stands_still-clause-state
+returns-then-stands_still-clause-state c = let k = c.stands_still.ensures.still c.if-stands_still.true in c.process_still.ensures.state ∙ k.done
 
-pub process_block-requires : goal.process_block-requires
-unfolding block_rests
-process_block-requires c =
-    let all = (arrays c.args.places.now c.args.levels.now c.args.amplitudes.now (numbers c.args.kinds.now c.args.counts.now c.args.shorts.now c.args.values.now c.args.times.now)) in
-    let rests = c.is_steady-rests.ensures c.args.shorts.now c.args.times.now c.args.amplitudes.now in
-    let waits = c.waits_through-waits.ensures c.args.shorts.now c.args.times.now c.args.amplitudes.now in
-    record { gain_table = c.requires.gain_table; block_ready = asks_moved c.args.ordered c.args.nanos c.args.step c.args.head c.args.clocks all {x = arrays c.move_state.new.places c.move_state.new.levels c.move_state.new.amplitudes (numbers c.move_state.new.kinds c.move_state.new.counts c.move_state.new.shorts c.move_state.new.values c.move_state.new.times)} rests waits c.stands_still-still.ensures c.move_state.ensures (c.requires.block_ready.asks _ _ rests waits); clocks_can_move = c.requires.block_ready.ticks; parts_of_full_chunk = c.requires.parts_of_full_chunk; parts_of_last_chunk = c.requires.parts_of_last_chunk; parts_of_wide_chunk = c.requires.parts_of_wide_chunk; parts_of_last_wide_chunk = c.requires.parts_of_last_wide_chunk; out_sized = c.requires.out_sized; sends_and_mix_sized = c.requires.sends_and_mix_sized }
+pub returns-then-stands_still-clause-samples : goal.returns-then-stands_still-clause-samples
+returns-then-stands_still-clause-samples c =
+    let k = c.stands_still.ensures.still c.if-stands_still.true in
+    c.process_still.ensures.samples ∙ ap (λ (r : Recordings). still_samples c.args.scene.now r c.stands_still.new.mixer) c.new-heard.ensures
+    ∙ k.heard (recordings c.args.samples.now c.args.visitor.now) c.requires.samples_ok
 
-pub shape_of-kinds : goal.shape_of-kinds
-shape_of-kinds c = c.process_block.auto.kinds ∙ c.move_state.auto.kinds
+pub process_chunks-requires-clause-can_render : goal.process_chunks-requires-clause-can_render
+process_chunks-requires-clause-can_render c =
+    let r = c.requires.rendering in
+    let samples = recordings c.args.samples.now c.args.visitor.now in
+    subst (λ (h : Recordings). CanRender c.args.scene.now h c.stands_still.new.mixer) (sym c.new-heard.ensures)
+    (subst (CanRender c.args.scene.now samples) (sym (c.stands_still.ensures.moving c.if-stands_still.false))
+    (can_render c.args.scene.now samples c.requires.scene_ok c.requires.samples_ok (omega arith, omega arith) r.chunks c.args.mixer.now r.inside r.few))
 
-pub shape_of-counts : goal.shape_of-counts
-shape_of-counts c = c.process_block.auto.counts ∙ c.move_state.auto.counts
-
-pub shape_of-shorts : goal.shape_of-shorts
-shape_of-shorts c = c.process_block.auto.shorts ∙ c.move_state.auto.shorts
-
-pub shape_of-values : goal.shape_of-values
-shape_of-values c = c.process_block.auto.values ∙ c.move_state.auto.values
-
-pub shape_of-times : goal.shape_of-times
-shape_of-times c = c.process_block.auto.times ∙ c.move_state.auto.times
-
-pub shape_of-sends : goal.shape_of-sends
-shape_of-sends c = c.process_block.auto.sends
-
-pub shape_of-mix : goal.shape_of-mix
-shape_of-mix c = c.process_block.auto.mix
-
-pub shape_of-out : goal.shape_of-out
-shape_of-out c = c.process_block.auto.out
-
-pub returns : goal.returns
-unfolding block_rests
-returns c =
-    let all = (arrays c.args.places.now c.args.levels.now c.args.amplitudes.now (numbers c.args.kinds.now c.args.counts.now c.args.shorts.now c.args.values.now c.args.times.now)) in
-    let rests = c.is_steady-rests.ensures c.args.shorts.now c.args.times.now c.args.amplitudes.now in
-    let waits = c.waits_through-waits.ensures c.args.shorts.now c.args.times.now c.args.amplitudes.now in
-    let still = c.stands_still-still.ensures in
-    let moved = c.move_state.ensures in
-    let x = arrays c.move_state.new.places c.move_state.new.levels c.move_state.new.amplitudes (numbers c.move_state.new.kinds c.move_state.new.counts c.move_state.new.shorts c.move_state.new.values c.move_state.new.times) in
-    record { clocks = c.process_block.ensures.clocks; state = after_block c.args.ordered c.args.nanos c.args.step c.args.head c.args.clocks all {x = x} rests waits still moved {r = arrays c.process_block.new.places c.process_block.new.levels c.process_block.new.amplitudes (numbers c.process_block.new.kinds c.process_block.new.counts c.process_block.new.shorts c.process_block.new.values c.process_block.new.times)} c.process_block.ensures.state; samples = heard_block c.args.ordered c.args.nanos c.args.step c.args.head c.args.clocks all {x = x} rests waits still moved (recordings c.args.samples.now c.args.visitor.now) {r = c.process_block.new.out} c.process_block.ensures.samples }
+pub returns-clause-samples : goal.returns-clause-samples
+returns-clause-samples c =
+    c.process_chunks.ensures.samples ∙ ap (λ (r : Recordings). block_samples c.args.scene.now r c.stands_still.new.mixer) c.new-heard.ensures
+    ∙ ap (block_samples c.args.scene.now (recordings c.args.samples.now c.args.visitor.now)) (c.stands_still.ensures.moving c.if-stands_still.false)

@@ -1,6 +1,6 @@
 use mathlib.Core.Path.{◌≡◌}
 use mathlib.Core.List.{List}
-use Prim.Native.Nat.{ℕ, ◌-◌, ◌≤◌}
+use Prim.Native.Nat.{ℕ}
 use lib.ListN.{replicate}
 use lib.IntN.{pos}
 use lib.Ieee.{Float, binary32, of_int}
@@ -18,7 +18,4 @@ abbrev pub part : ℕ → ℕ → Float → Float
 part n k x = part_at k n
 
 abbrev pub invariant-loop-i : goal.invariant-loop-i
-invariant-loop-i l = (l.i ≤ l.frames) × (l.parts ≡ changed (part l.frames) l.i l.initial.parts)
-
-abbrev pub decreases-loop-i : goal.decreases-loop-i
-decreases-loop-i l = l.frames - l.i
+invariant-loop-i l = l.parts ≡ changed (part l.frames) l.i l.initial.parts

@@ -1,14 +1,25 @@
--- `block::mix_chunk` meets its contract: each arm has the parts that the test chose. Assumes nothing.
-use Rattle.std.proofs.Common.{sym, ◌∙◌}
-use Rattle.laws.proofs.laws.Choice.{cond-true, cond-false}
+-- `mix_chunk` meets its contract: the chunk that is laid is the mixer's (`laws`, Mixed). Assumes nothing.
+use Rattle.std.proofs.Common.{◌∙◌, arith}
+use Rattle.chunk_render.proofs.laws.Mixed.{laid_mixes, laid_frames, laid_parts, laid_links, laid_samples}
 use Rattle.chunk_render.proofs.chunks.mix_chunk.Goals as goal
 
-pub process_flat-requires : goal.process_flat-requires
-process_flat-requires c =
-    let chosen = cond-true c.args.ends c.args.last.now c.args.full.now c.if-ends.true in
-    record { gain_table = c.requires.gain_table; chunk_ok = c.requires.chunk_ok; links_of_the_chunk = c.requires.links_of_the_chunk; parts_of_the_chunk = sym chosen ∙ c.requires.parts_of_the_chunk; room_for_frames = c.requires.room_for_frames; sends_sized = c.requires.sends_sized }
+pub process_flat-requires-clause-chunk_ok : goal.process_flat-requires-clause-chunk_ok
+process_flat-requires-clause-chunk_ok c = laid_mixes c.requires.can_mix c.requires.frames_in_a_chunk c.put_chunk.ensures
 
-pub process_flat-requires-else-ends : goal.process_flat-requires-else-ends
-process_flat-requires-else-ends c =
-    let chosen = cond-false c.args.ends c.args.last.now c.args.full.now c.if-ends.false in
-    record { gain_table = c.requires.gain_table; chunk_ok = c.requires.chunk_ok; links_of_the_chunk = c.requires.links_of_the_chunk; parts_of_the_chunk = sym chosen ∙ c.requires.parts_of_the_chunk; room_for_frames = c.requires.room_for_frames; sends_sized = c.requires.sends_sized }
+pub process_flat-requires-clause-links_of_the_chunk : goal.process_flat-requires-clause-links_of_the_chunk
+process_flat-requires-clause-links_of_the_chunk c = laid_links c.args.scene.now c.args.frames c.args.mixer.now c.put_chunk.ensures c.requires.scene_ok c.requires.links_of_the_scene
+
+pub process_flat-requires-clause-parts_of_the_chunk : goal.process_flat-requires-clause-parts_of_the_chunk
+process_flat-requires-clause-parts_of_the_chunk c = laid_parts c.args.scene.now c.args.frames c.args.mixer.now c.put_chunk.ensures c.requires.parts_of_the_chunk
+
+pub process_flat-requires-clause-room_for_frames : goal.process_flat-requires-clause-room_for_frames
+process_flat-requires-clause-room_for_frames c = omega (arith, laid_frames c.args.scene.now c.args.frames c.args.mixer.now c.put_chunk.ensures, c.requires.frames_in_a_chunk)
+
+pub returns : goal.returns
+returns c =
+    record {
+      state = c.advance.ensures;
+      samples =
+          c.write_frames.ensures
+          ∙ laid_samples c.args.scene.now c.args.frames c.args.mixer.now c.put_chunk.ensures c.args.heard.now c.args.scene.now.head.channels c.args.room.now.mix (omega (arith, c.requires.frames_in_a_chunk)) c.process_flat.ensures;
+    }

@@ -1,4 +1,3 @@
--- `chunk::empty_level` meets its contract. Assumes nothing.
 use mathlib.Core.Path.{refl}
 use lib.Ieee.{of_int, of_bits}
 use Rattle.mixer_chunk.specs.ChunkOf.{empty_level}

@@ -1,6 +1,6 @@
 use mathlib.Core.Path.{◌≡◌}
 use mathlib.Core.List.{List}
-use Prim.Native.Nat.{ℕ, ◌+◌, ◌-◌, ◌≤◌}
+use Prim.Native.Nat.{ℕ, ◌+◌, ◌-◌}
 use native.Mathlib.Omega.{arith}
 use lib.ListN.{length}
 use lib.Ieee.{Float}
@@ -8,7 +8,6 @@ use Rattle.laws.specs.Loop.{downto}
 use Rattle.chunk.specs.declared.chunk.Chunk.{Chunk}
 use Rattle.frame.specs.Layout.{scratch, frame_at, with_frames}
 use Rattle.chunk.specs.Chunk.{send_row}
-use Rattle.chunk.specs.Flat.{chunk_from}
 use Rattle.frame.proofs.laws.Layout.{Step}
 use Rattle.frame.proofs.laws.Turn.{turns}
 use Rattle.send_track.specs.Send.{added_send, send_layout}
@@ -31,12 +30,8 @@ after_it count done = omega arith
 abbrev pub Inv : Chunk → List Float → List Float → ℕ → List Float → ℕ → Type 0
 Inv chunk sends out₀ count out done =
     (count ≡ chunk.send_count)
-    × (done ≤ count)
     × (length out ≡ length out₀)
     × (downto (turns (with_frames (scratch 0 chunk.frames)) (step chunk sends)) (count - done) out ≡ downto (turns (with_frames (scratch 0 chunk.frames)) (step chunk sends)) chunk.send_count out₀)
 
 abbrev pub invariant-loop-done : goal.invariant-loop-done
-invariant-loop-done l = Inv (chunk_from l.places l.levels l.amplitudes) l.sends l.initial.out l.count l.out l.done
-
-abbrev pub decreases-loop-done : goal.decreases-loop-done
-decreases-loop-done l = l.count - l.done
+invariant-loop-done l = Inv l.chunk l.sends l.initial.out l.count l.out l.done

@@ -3,9 +3,8 @@ use mathlib.Core.List.{List}
 use Prim.Native.Nat.{ℕ}
 use lib.ListN.{length}
 use lib.Ieee.{Float}
-use Rattle.recordings.specs.Recordings.{Recordings, recordings}
+use Rattle.recordings.specs.Recordings.{Recordings}
 use Rattle.chunk.specs.declared.chunk.Chunk.{Chunk}
-use Rattle.chunk.specs.Flat.{chunk_from}
 use Rattle.limits.specs.Limits.{track_depth}
 use Rattle.track.proofs.laws.Tracks.{TracksLeft}
 use Rattle.frame.specs.Running.{AllRunning}
@@ -16,7 +15,4 @@ abbrev pub Inv : Chunk → Recordings → List ℕ → List Float → List Float
 Inv chunk samples links out₀ sends₀ out sends j = (length out ≡ length out₀) × (length sends ≡ length sends₀) × TracksLeft chunk samples track_depth 0 links out₀ sends₀ out sends j × AllRunning chunk.frames out × SendsRunning chunk sends
 
 abbrev pub invariant-loop-j : goal.invariant-loop-j
-invariant-loop-j l = Inv (chunk_from l.places l.levels l.amplitudes) (recordings l.samples l.visitor) l.sub_tracks l.initial.out l.initial.sends l.out l.sends l.j
-
-abbrev pub decreases-loop-j : goal.decreases-loop-j
-decreases-loop-j l = l.j
+invariant-loop-j l = Inv l.chunk l.heard l.links.sub_tracks l.initial.out l.initial.sends l.out l.sends l.j-iterator.line × (l.j-iterator.links.now ≡ l.links.sub_tracks)

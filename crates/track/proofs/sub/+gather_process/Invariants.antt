@@ -3,10 +3,9 @@ use mathlib.Core.List.{List}
 use Prim.Native.Nat.{ℕ, ◌+◌, ◌*◌}
 use lib.ListN.{length}
 use lib.Ieee.{Float}
-use Rattle.recordings.specs.Recordings.{Recordings, recordings}
+use Rattle.recordings.specs.Recordings.{Recordings}
 use Rattle.chunk.specs.declared.chunk.Chunk.{Chunk}
 use Rattle.frame.specs.Running.{AllRunning}
-use Rattle.chunk.specs.Flat.{chunk_from}
 use Rattle.send_track.specs.Send.{SendsRunning}
 use Rattle.track.proofs.laws.Tracks.{TracksLeft}
 use Rattle.track.proofs.sub.+gather_process.Given as goal
@@ -27,7 +26,4 @@ decreases-process l = 2 * l.depth
 
 abbrev pub invariant-gather-loop-j : goal.invariant-gather-loop-j
 invariant-gather-loop-j l =
-    Inv (chunk_from l.places l.levels l.amplitudes) (recordings l.samples l.visitor) l.sub_tracks l.line l.depth l.initial.out l.initial.sends l.out l.sends l.j
-
-abbrev pub decreases-gather-loop-j : goal.decreases-gather-loop-j
-decreases-gather-loop-j l = l.j
+    Inv l.chunk l.heard l.links.sub_tracks l.line l.depth l.initial.out l.initial.sends l.out l.sends l.j-iterator.line × (l.j-iterator.links.now ≡ l.links.sub_tracks)

@@ -2,13 +2,12 @@ use mathlib.Core.Path.{◌≡◌}
 use Prim.Native.Nat.{◌<◌}
 use lib.ListN.{length}
 use Rattle.frame.specs.Layout.{scratch, frame_at}
-use Rattle.chunk.specs.Flat.{chunk_from}
 use Rattle.links.specs.Links.{line_before}
 use Rattle.track.proofs.laws.Routes.{RoutesLeft}
 use Rattle.track.proofs.sub.hand_on_many.Given as goal
 
 abbrev pub invariant-loop-after : goal.invariant-loop-after
-invariant-loop-after l = let chunk = chunk_from l.places l.levels l.amplitudes in
+invariant-loop-after l = let chunk = l.chunk in
     (length l.sends ≡ length l.initial.sends)
     × RoutesLeft chunk l.line (frame_at (scratch 0 chunk.frames) l.out) l.initial.sends l.sends l.r
     × (0 < l.r)

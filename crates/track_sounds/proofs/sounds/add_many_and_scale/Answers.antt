@@ -3,29 +3,18 @@
 use mathlib.Core.Path.{refl, ap, ◌∙◌}
 use Prim.Native.Nat.{◌<◌}
 use native.Mathlib.Omega.{arith}
-use Rattle.recordings.specs.Recordings.{recordings}
 use Rattle.frame.specs.Layout.{scratch, with_frames}
 use Rattle.frame.proofs.laws.Layout.{kept}
-use Rattle.chunk.specs.Flat.{chunk_from}
 use Rattle.sound.specs.Part.{added_part}
 use Rattle.track_volume.specs.TrackVolume.{track_placed_scaled}
 use Rattle.track_sounds.proofs.laws.Owners.{two_there}
 use Rattle.track_sounds.proofs.laws.Sound.{sounds_begin, sounds_less, sounds_turn, sounds_end}
 use Rattle.track_sounds.proofs.sounds.add_many_and_scale.Goals as goal
 
-pub line_before-next-requires : goal.line_before-next-requires
-line_before-next-requires c =
-    let chunk = chunk_from c.args.places.now c.args.levels.now c.args.amplitudes.now in
-    let heard = recordings c.args.samples.now c.args.visitor.now in
-    let to = c.args.to.now in
-    let ok = c.requires.chunk_ok in
-    let begun = sounds_begin chunk heard ok c.args.line to c.requires.line_in_range c.requires.sound_links c.last_line-k.ensures in
-    (omega (arith, c.last_line-k.ensures, c.requires.two_lines_or_more.0), omega (arith, begun.few, c.requires.chunk_ok.sounds))
-
 pub line_before-after-requires : goal.line_before-after-requires
 line_before-after-requires c =
-    let chunk = chunk_from c.args.places.now c.args.levels.now c.args.amplitudes.now in
-    let heard = recordings c.args.samples.now c.args.visitor.now in
+    let chunk = c.args.chunk.now in
+    let heard = c.args.heard.now in
     let to = c.args.to.now in
     let ok = c.requires.chunk_ok in
     let begun = sounds_begin chunk heard ok c.args.line to c.requires.line_in_range c.requires.sound_links c.last_line-k.ensures in
@@ -35,20 +24,17 @@ line_before-after-requires c =
 
 pub loop-after-init : goal.loop-after-init
 loop-after-init c =
-    let chunk = chunk_from c.args.places.now c.args.levels.now c.args.amplitudes.now in
-    let heard = recordings c.args.samples.now c.args.visitor.now in
+    let chunk = c.args.chunk.now in
+    let heard = c.args.heard.now in
     let to = c.args.to.now in
     let ok = c.requires.chunk_ok in
     let there : 0 < c.last_line-k.result = omega (arith, c.last_line-k.ensures, c.requires.two_lines_or_more.0) in
     (refl, sounds_begin chunk heard ok c.args.line to c.requires.line_in_range c.requires.sound_links c.last_line-k.ensures, there, c.line_before-next.ensures, two_there c.args.links.now c.args.line c.last_line-k.ensures c.line_before-next.ensures c.requires.two_lines_or_more.1, c.line_before-after.ensures)
 
-pub part_of-part-requires : goal.part_of-part-requires
-part_of-part-requires c = record { chunk_ok = c.requires.chunk_ok; line_of_a_sound = (c.loop-after.invariant.2, c.loop-after.invariant.1.few) }
-
 pub line_before-after-requires-in-loop-after : goal.line_before-after-requires-in-loop-after
 line_before-after-requires-in-loop-after c =
-    let chunk = chunk_from c.args.places.now c.args.levels.now c.args.amplitudes.now in
-    let heard = recordings c.args.samples.now c.args.visitor.now in
+    let chunk = c.args.chunk.now in
+    let heard = c.args.heard.now in
     let to = c.args.to.now in
     let ok = c.requires.chunk_ok in
     let below = sounds_less chunk heard ok c.args.line to c.requires.line_in_range c.requires.sound_links c.loop-after.k c.loop-after.to c.loop-after.invariant.3 c.loop-after.invariant.2 c.loop-after.invariant.1 in
@@ -59,16 +45,16 @@ line_before-after-requires-in-loop-after c =
 
 pub loop-after-smaller : goal.loop-after-smaller
 loop-after-smaller c =
-    let chunk = chunk_from c.args.places.now c.args.levels.now c.args.amplitudes.now in
-    let heard = recordings c.args.samples.now c.args.visitor.now in
+    let chunk = c.args.chunk.now in
+    let heard = c.args.heard.now in
     let to = c.args.to.now in
     let ok = c.requires.chunk_ok in
     sounds_less chunk heard ok c.args.line to c.requires.line_in_range c.requires.sound_links c.loop-after.k c.loop-after.to c.loop-after.invariant.3 c.loop-after.invariant.2 c.loop-after.invariant.1
 
 pub loop-after-preserved : goal.loop-after-preserved
 loop-after-preserved c =
-    let chunk = chunk_from c.args.places.now c.args.levels.now c.args.amplitudes.now in
-    let heard = recordings c.args.samples.now c.args.visitor.now in
+    let chunk = c.args.chunk.now in
+    let heard = c.args.heard.now in
     let to = c.args.to.now in
     let ok = c.requires.chunk_ok in
     let made = c.add_sound.ensures in (
@@ -80,25 +66,19 @@ loop-after-preserved c =
       c.line_before-after-in-loop-after.ensures,
     )
 
-pub part_of-first-requires : goal.part_of-first-requires
-part_of-first-requires c = record { chunk_ok = c.requires.chunk_ok; line_of_a_sound = (c.loop-after.invariant.2, c.loop-after.invariant.1.few) }
-
 pub part_of-second-requires : goal.part_of-second-requires
 part_of-second-requires c =
-    let chunk = chunk_from c.args.places.now c.args.levels.now c.args.amplitudes.now in
-    let heard = recordings c.args.samples.now c.args.visitor.now in
+    let chunk = c.args.chunk.now in
+    let heard = c.args.heard.now in
     let to = c.args.to.now in
     let ok = c.requires.chunk_ok in
     let below = sounds_less chunk heard ok c.args.line to c.requires.line_in_range c.requires.sound_links c.loop-after.k c.loop-after.to c.loop-after.invariant.3 c.loop-after.invariant.2 c.loop-after.invariant.1 in
     record { chunk_ok = ok; line_of_a_sound = (c.loop-after.invariant.4, omega (arith, below, c.loop-after.invariant.1.few)) }
 
-pub add_last_sounds-requires : goal.add_last_sounds-requires
-add_last_sounds-requires c = record { gain_table = c.requires.gain_table; room_for_chunk = (c.requires.chunk_ok.short, omega (arith, c.loop-after.invariant.0, c.requires.room_for_frames)); levels_in_range = c.requires.levels_in_range; placing_in_range = c.requires.placing_in_range; parts_of_the_chunk = c.requires.parts_of_the_chunk }
-
 pub returns : goal.returns
 returns c =
-    let chunk = chunk_from c.args.places.now c.args.levels.now c.args.amplitudes.now in
-    let heard = recordings c.args.samples.now c.args.visitor.now in
+    let chunk = c.args.chunk.now in
+    let heard = c.args.heard.now in
     let to = c.args.to.now in
     let ok = c.requires.chunk_ok in
     let L = scratch 0 chunk.frames in

@@ -1,15 +1,13 @@
 use mathlib.Core.Path.{◌≡◌}
 use Prim.Native.Nat.{◌<◌}
 use lib.ListN.{length}
-use Rattle.recordings.specs.Recordings.{recordings}
-use Rattle.chunk.specs.Flat.{chunk_from}
 use Rattle.links.specs.Links.{line_before}
 use Rattle.track_sounds.proofs.laws.Sound.{SoundsLeft}
 use Rattle.track_sounds.proofs.sounds.add_many_and_scale.Given as goal
 
 abbrev pub invariant-loop-after : goal.invariant-loop-after
 invariant-loop-after l = (length l.to ≡ length l.initial.to)
-    × SoundsLeft (chunk_from l.places l.levels l.amplitudes) (recordings l.samples l.visitor) l.line l.initial.to l.to l.k
+    × SoundsLeft l.chunk l.heard l.line l.initial.to l.to l.k
     × (0 < l.k)
     × (l.next ≡ line_before l.links l.k)
     × (0 < l.next)

@@ -1,4 +1,0 @@
-pub mod Puts
-pub mod Kept
-pub mod Lines
-pub mod Laid

@@ -1,4 +1,0 @@
-pub mod Puts
-pub mod Reads
-pub mod Store
-pub mod Writes
