@@ -5,8 +5,6 @@ ghost use Rattle.scene_questions.specs.Questions.{rows_at, parent_of};
 ghost use Rattle.scene_questions.specs.Places.{stored, Low};
 ghost use Rattle.noninterference.specs.Removed.{inside};
 
-use scene_file::{at, natural_of};
-use scene_tables::column::{TRACK_COLUMNS, TRACK_PARENT};
 use scene_tables::{TABLES, TRACKS};
 
 // The parent of a track line; lines count from 1, and 0 is the mixer.
@@ -20,17 +18,7 @@ pub fn parent_of(
     ensures { let ts = stored starts.now counts.now values.now in
         result ≡ parent_of (rows_at ts tracks) line }
 {
-    if line == 0 {
-        return 0;
-    }
-    if counts[TRACKS] < line {
-        return 0;
-    }
-    natural_of(at(
-        values,
-        starts[TRACKS] + (line - 1) * TRACK_COLUMNS,
-        TRACK_PARENT,
-    ))
+    scene_questions::parent_of(values, starts[TRACKS], counts[TRACKS], line)
 }
 
 // Whether a line, counted from 1, is a track, counted from 0, or stands below it.
@@ -46,8 +34,7 @@ pub fn is_inside(
         result ≡ inside ts (eqb track) line }
 {
     let mut reached = line;
-    let mut steps = line;
-    while 0 < steps {
+    for _ in 0..line {
         if reached == 0 {
             return false;
         }
@@ -55,7 +42,6 @@ pub fn is_inside(
             return true;
         }
         reached = parent_of(values, starts, counts, reached);
-        steps -= 1;
     }
     false
 }

@@ -58,24 +58,6 @@ fn is_holding(
     order_field(values, starts, counts, i, ORDER_MILLIS) == ZERO
 }
 
-fn one_or_none(
-    values: &[u32],
-    starts: &[usize; TABLES],
-    counts: &[usize; TABLES],
-    track: usize,
-    i: usize,
-) -> usize
-    requires tables_in_range { Low starts.now counts.now }
-    requires order_in_table { i < get_or counts.now orders 0 }
-    ensures { let ts = stored starts.now counts.now values.now in
-        result ≡ cond (pauses_or_resumes ts track i) 1 0 }
-{
-    if pauses_or_resumes(values, starts, counts, track, i) {
-        return 1;
-    }
-    0
-}
-
 // How many orders pause or resume the track.
 fn pauses_and_resumes(
     values: &[u32],
@@ -87,12 +69,9 @@ fn pauses_and_resumes(
     ensures { let ts = stored starts.now counts.now values.now in
         result ≡ upto (λ i n. cond (pauses_or_resumes ts track i) (suc n) n) (lines_at ts orders) 0 }
 {
-    let lines = counts[ORDERS];
     let mut n = 0;
-    let mut i = 0;
-    while i < lines {
-        n += one_or_none(values, starts, counts, track, i);
-        i += 1;
+    for i in 0..counts[ORDERS] {
+        n += usize::from(pauses_or_resumes(values, starts, counts, track, i));
     }
     n
 }
@@ -126,15 +105,7 @@ fn all_may_hold(
     ensures { let ts = stored starts.now counts.now values.now in
         result ≡ every (lines_at ts orders) (λ i. cond (pauses_or_resumes ts track i) (is_holding ts track i) true) }
 {
-    let lines = counts[ORDERS];
-    let mut i = 0;
-    while i < lines {
-        if !may_hold(values, starts, counts, track, i) {
-            return false;
-        }
-        i += 1;
-    }
-    true
+    (0..counts[ORDERS]).all(|i| may_hold(values, starts, counts, track, i))
 }
 
 // Whether a track, counted from 0, is held.

@@ -68,15 +68,7 @@ fn orders_are_silent(
     ensures { let ts = stored starts.now counts.now values.now in
         result ≡ every (lines_at ts orders) (λ i. cond (names ts order_kind.track_volume track i) (silent_volume (cell (rows_at ts orders) i order_column.volume)) true) }
 {
-    let lines = counts[ORDERS];
-    let mut i = 0;
-    while i < lines {
-        if !order_is_silent(values, starts, counts, track, i) {
-            return false;
-        }
-        i += 1;
-    }
-    true
+    (0..counts[ORDERS]).all(|i| order_is_silent(values, starts, counts, track, i))
 }
 
 // Whether a route is of a track below the track.
@@ -107,15 +99,7 @@ fn none_is_below(
     ensures { let ts = stored starts.now counts.now values.now in
         result ≡ every (lines_at ts routes) (λ i. not (names_removed (removed_track ts (eqb track)) (natural (cell (rows_at ts routes) i route_column.track)))) }
 {
-    let lines = counts[ROUTES];
-    let mut i = 0;
-    while i < lines {
-        if is_below(values, starts, counts, track, i) {
-            return false;
-        }
-        i += 1;
-    }
-    true
+    (0..counts[ROUTES]).all(|i| !is_below(values, starts, counts, track, i))
 }
 
 // Whether a track, counted from 0, is muted.

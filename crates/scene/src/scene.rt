@@ -1,6 +1,5 @@
 // A scene: the tables of an accepted file. Line numbers count from 1, as in the file.
-ghost use Rattle.std.specs.Prelude.{◌≡◌, ◌+◌, ◌-◌, ◌*◌, ◌≤◌, true, [], take, drop};
-ghost use Rattle.limits.specs.Limits.{clock_lines, track_lines, send_lines, route_lines, sound_lines, order_lines};
+ghost use Rattle.std.specs.Prelude.{◌≡◌, ℕ, ◌+◌, ◌-◌, ◌*◌, ◌≤◌, true, List, [], take, drop};
 ghost use Rattle.scene_tables.specs.Tables.{table_at, width, head, clocks, tracks, sends, routes, sounds, listener, placings, orders};
 ghost use Rattle.scene_questions.specs.Places.{rows_in, stored, counts_fit, places_most, Low};
 ghost use Rattle.scene.specs.Scene.{thousandths, volume_of, kind_of, clock_time_of, start_time_of, easing_of};
@@ -73,7 +72,7 @@ pub struct TrackPlacing {
     pub placing: Placing,
 }
 
-#[derive(Clone, Copy)]
+#[derive(Clone, Copy, PartialEq, Eq, Debug)]
 pub enum OrderKind {
     MainVolume,
     TrackVolume,
@@ -112,6 +111,16 @@ pub struct Scene {
     pub placings: [TrackPlacing; TRACK_LINES],
     pub order_count: usize,
     pub orders: [OrderLine; ORDER_LINES],
+}
+
+// A line of a table.
+trait Line: Copy {
+    ghost of: { List ℕ → Self };
+
+    ghost columns: { ℕ };
+
+    fn read(values: &[u32], a: usize) -> Self
+        ensures { result ≡ of (take columns (drop a values.now)) };
 }
 
 // Thousandths are made an f32 by dividing by 1000.
@@ -212,163 +221,116 @@ fn head_of(values: &[u32], a: usize) -> Head
     }
 }
 
-fn clock_line_of(values: &[u32], a: usize) -> ClockLine
-    ensures { result ≡ clock_of (take (width (table_at clocks)) (drop a values.now)) }
-{
-    ClockLine {
-        speed: speed_of(
-            at(values, a, column::CLOCK_UNIT),
-            at(values, a, column::CLOCK_SPEED),
-        ),
-        ticking: at(values, a, column::CLOCK_TICKING) == ONE,
+impl Line for ClockLine {
+    ghost of = { clock_of };
+
+    ghost columns = { width (table_at clocks) };
+
+    fn read(values: &[u32], a: usize) -> ClockLine {
+        ClockLine {
+            speed: speed_of(
+                at(values, a, column::CLOCK_UNIT),
+                at(values, a, column::CLOCK_SPEED),
+            ),
+            ticking: at(values, a, column::CLOCK_TICKING) == ONE,
+        }
     }
 }
 
-fn track_line_of(values: &[u32], a: usize) -> TrackLine
-    ensures { result ≡ track_of (take (width (table_at tracks)) (drop a values.now)) }
-{
-    TrackLine {
-        parent: natural_of(at(values, a, column::TRACK_PARENT)),
-        volume: volume_of(at(values, a, column::TRACK_VOLUME)),
+impl Line for TrackLine {
+    ghost of = { track_of };
+
+    ghost columns = { width (table_at tracks) };
+
+    fn read(values: &[u32], a: usize) -> TrackLine {
+        TrackLine {
+            parent: natural_of(at(values, a, column::TRACK_PARENT)),
+            volume: volume_of(at(values, a, column::TRACK_VOLUME)),
+        }
     }
 }
 
-fn send_line_of(values: &[u32], a: usize) -> SendLine
-    ensures { result ≡ send_of (take (width (table_at sends)) (drop a values.now)) }
-{
-    SendLine {
-        volume: volume_of(at(values, a, column::SEND_VOLUME)),
+impl Line for SendLine {
+    ghost of = { send_of };
+
+    ghost columns = { width (table_at sends) };
+
+    fn read(values: &[u32], a: usize) -> SendLine {
+        SendLine {
+            volume: volume_of(at(values, a, column::SEND_VOLUME)),
+        }
     }
 }
 
-fn route_line_of(values: &[u32], a: usize) -> RouteLine
-    ensures { result ≡ route_of (take (width (table_at routes)) (drop a values.now)) }
-{
-    RouteLine {
-        track: natural_of(at(values, a, column::ROUTE_TRACK)),
-        send: natural_of(at(values, a, column::ROUTE_SEND)),
-        volume: volume_of(at(values, a, column::ROUTE_VOLUME)),
+impl Line for RouteLine {
+    ghost of = { route_of };
+
+    ghost columns = { width (table_at routes) };
+
+    fn read(values: &[u32], a: usize) -> RouteLine {
+        RouteLine {
+            track: natural_of(at(values, a, column::ROUTE_TRACK)),
+            send: natural_of(at(values, a, column::ROUTE_SEND)),
+            volume: volume_of(at(values, a, column::ROUTE_VOLUME)),
+        }
     }
 }
 
-fn sound_line_of(values: &[u32], a: usize) -> SoundLine
-    ensures { result ≡ sound_of (take (width (table_at sounds)) (drop a values.now)) }
-{
-    SoundLine {
-        track: natural_of(at(values, a, column::SOUND_TRACK)),
-        first: natural_of(at(values, a, column::SOUND_FIRST)),
-        count: natural_of(at(values, a, column::SOUND_COUNT)),
-        from: natural_of(at(values, a, column::SOUND_FROM)),
+impl Line for SoundLine {
+    ghost of = { sound_of };
+
+    ghost columns = { width (table_at sounds) };
+
+    fn read(values: &[u32], a: usize) -> SoundLine {
+        SoundLine {
+            track: natural_of(at(values, a, column::SOUND_TRACK)),
+            first: natural_of(at(values, a, column::SOUND_FIRST)),
+            count: natural_of(at(values, a, column::SOUND_COUNT)),
+            from: natural_of(at(values, a, column::SOUND_FROM)),
+        }
     }
 }
 
-fn order_line_of(values: &[u32], a: usize) -> OrderLine
-    ensures { result ≡ order_of (take (width (table_at orders)) (drop a values.now)) }
-{
-    OrderLine {
-        block: natural_of(at(values, a, column::ORDER_BLOCK)),
-        kind: kind_of(at(values, a, column::ORDER_KIND)),
-        index: natural_of(at(values, a, column::ORDER_INDEX)),
-        target: volume_of(at(values, a, column::ORDER_VOLUME)),
-        start_time: start_time_of(
-            at(values, a, column::ORDER_CLOCK),
-            at(values, a, column::ORDER_WHEN),
-            at(values, a, column::ORDER_PART),
-        ),
-        millis: natural_of(at(values, a, column::ORDER_MILLIS)) as u64,
-        easing: easing_of(
-            at(values, a, column::ORDER_EASING),
-            at(values, a, column::ORDER_POWER),
-        ),
+impl Line for OrderLine {
+    ghost of = { order_of };
+
+    ghost columns = { width (table_at orders) };
+
+    fn read(values: &[u32], a: usize) -> OrderLine {
+        OrderLine {
+            block: natural_of(at(values, a, column::ORDER_BLOCK)),
+            kind: kind_of(at(values, a, column::ORDER_KIND)),
+            index: natural_of(at(values, a, column::ORDER_INDEX)),
+            target: volume_of(at(values, a, column::ORDER_VOLUME)),
+            start_time: start_time_of(
+                at(values, a, column::ORDER_CLOCK),
+                at(values, a, column::ORDER_WHEN),
+                at(values, a, column::ORDER_PART),
+            ),
+            millis: natural_of(at(values, a, column::ORDER_MILLIS)) as u64,
+            easing: easing_of(
+                at(values, a, column::ORDER_EASING),
+                at(values, a, column::ORDER_POWER),
+            ),
+        }
     }
 }
 
-fn clock_lines(values: &[u32], start: usize, lines: usize) -> [ClockLine; CLOCK_LINES]
-    requires table_in_range { start + lines * width (table_at clocks) ≤ places_most }
-    requires clocks_fit { lines ≤ clock_lines }
-    ensures { result ≡ filled clock_lines clock_of (rows_in values.now start (width (table_at clocks)) lines) }
+// The lines of a table in their order, and in the other places what a line past the numbers' end gives.
+fn lines<T: Line, const N: usize>(
+    values: &[u32],
+    start: usize,
+    width: usize,
+    lines: usize,
+) -> [T; N]
+    requires columns { width ≡ T.columns }
+    requires table_in_range { start + lines * width ≤ places_most }
+    requires lines_fit { lines ≤ N }
+    ensures { result ≡ filled N T.of (rows_in values.now start T.columns lines) }
 {
-    let none = clock_line_of(values, values.len());
-    let mut out = [none; CLOCK_LINES];
-    let mut i = 0;
-    while i < lines {
-        out[i] = clock_line_of(values, start + i * column::CLOCK_COLUMNS);
-        i += 1;
-    }
-    out
-}
-
-fn track_lines(values: &[u32], start: usize, lines: usize) -> [TrackLine; TRACK_LINES]
-    requires table_in_range { start + lines * width (table_at tracks) ≤ places_most }
-    requires tracks_fit { lines ≤ track_lines }
-    ensures { result ≡ filled track_lines track_of (rows_in values.now start (width (table_at tracks)) lines) }
-{
-    let none = track_line_of(values, values.len());
-    let mut out = [none; TRACK_LINES];
-    let mut i = 0;
-    while i < lines {
-        out[i] = track_line_of(values, start + i * column::TRACK_COLUMNS);
-        i += 1;
-    }
-    out
-}
-
-fn send_lines(values: &[u32], start: usize, lines: usize) -> [SendLine; SEND_LINES]
-    requires table_in_range { start + lines * width (table_at sends) ≤ places_most }
-    requires sends_fit { lines ≤ send_lines }
-    ensures { result ≡ filled send_lines send_of (rows_in values.now start (width (table_at sends)) lines) }
-{
-    let none = send_line_of(values, values.len());
-    let mut out = [none; SEND_LINES];
-    let mut i = 0;
-    while i < lines {
-        out[i] = send_line_of(values, start + i * column::SEND_COLUMNS);
-        i += 1;
-    }
-    out
-}
-
-fn route_lines(values: &[u32], start: usize, lines: usize) -> [RouteLine; ROUTE_LINES]
-    requires table_in_range { start + lines * width (table_at routes) ≤ places_most }
-    requires routes_fit { lines ≤ route_lines }
-    ensures { result ≡ filled route_lines route_of (rows_in values.now start (width (table_at routes)) lines) }
-{
-    let none = route_line_of(values, values.len());
-    let mut out = [none; ROUTE_LINES];
-    let mut i = 0;
-    while i < lines {
-        out[i] = route_line_of(values, start + i * column::ROUTE_COLUMNS);
-        i += 1;
-    }
-    out
-}
-
-fn sound_lines(values: &[u32], start: usize, lines: usize) -> [SoundLine; SOUND_LINES]
-    requires table_in_range { start + lines * width (table_at sounds) ≤ places_most }
-    requires sounds_fit { lines ≤ sound_lines }
-    ensures { result ≡ filled sound_lines sound_of (rows_in values.now start (width (table_at sounds)) lines) }
-{
-    let none = sound_line_of(values, values.len());
-    let mut out = [none; SOUND_LINES];
-    let mut i = 0;
-    while i < lines {
-        out[i] = sound_line_of(values, start + i * column::SOUND_COLUMNS);
-        i += 1;
-    }
-    out
-}
-
-fn order_lines(values: &[u32], start: usize, lines: usize) -> [OrderLine; ORDER_LINES]
-    requires table_in_range { start + lines * width (table_at orders) ≤ places_most }
-    requires orders_fit { lines ≤ order_lines }
-    ensures { result ≡ filled order_lines order_of (rows_in values.now start (width (table_at orders)) lines) }
-{
-    let none = order_line_of(values, values.len());
-    let mut out = [none; ORDER_LINES];
-    let mut i = 0;
-    while i < lines {
-        out[i] = order_line_of(values, start + i * column::ORDER_COLUMNS);
-        i += 1;
+    let mut out = [T::read(values, values.len()); N];
+    for i in 0..lines {
+        out[i] = T::read(values, start + i * width);
     }
     out
 }
@@ -434,13 +396,11 @@ fn placings_of(
         placing: Placing::Plain,
     };
     let mut out = [plain; TRACK_LINES];
-    let mut i = 0;
-    while i < lines {
+    for i in 0..lines {
         let a = start + i * column::PLACING_COLUMNS;
         let track = natural_of(at(values, a, column::PLACING_TRACK));
         let placing = placing_of(values, listener, listeners, a);
         out[track - 1] = TrackPlacing { placing };
-        i += 1;
     }
     out
 }
@@ -453,13 +413,38 @@ pub fn scene_of(values: &[u32], starts: &[usize; TABLES], counts: &[usize; TABLE
     ensures { result ≡ scene_of (stored starts.now counts.now values.now) }
 {
     let head = head_of(values, starts[HEAD]);
-    let clocks = clock_lines(values, starts[CLOCKS], counts[CLOCKS]);
-    let tracks = track_lines(values, starts[TRACKS], counts[TRACKS]);
-    let sends = send_lines(values, starts[SENDS], counts[SENDS]);
-    let routes = route_lines(values, starts[ROUTES], counts[ROUTES]);
-    let sounds = sound_lines(values, starts[SOUNDS], counts[SOUNDS]);
+    let clocks = lines(
+        values,
+        starts[CLOCKS],
+        column::CLOCK_COLUMNS,
+        counts[CLOCKS],
+    );
+    let tracks = lines(
+        values,
+        starts[TRACKS],
+        column::TRACK_COLUMNS,
+        counts[TRACKS],
+    );
+    let sends = lines(values, starts[SENDS], column::SEND_COLUMNS, counts[SENDS]);
+    let routes = lines(
+        values,
+        starts[ROUTES],
+        column::ROUTE_COLUMNS,
+        counts[ROUTES],
+    );
+    let sounds = lines(
+        values,
+        starts[SOUNDS],
+        column::SOUND_COLUMNS,
+        counts[SOUNDS],
+    );
     let placings = placings_of(values, starts, counts);
-    let orders = order_lines(values, starts[ORDERS], counts[ORDERS]);
+    let orders = lines(
+        values,
+        starts[ORDERS],
+        column::ORDER_COLUMNS,
+        counts[ORDERS],
+    );
     Scene {
         head,
         clock_count: counts[CLOCKS],
@@ -484,16 +469,16 @@ pub fn no_scene() -> Scene
 {
     let values = [0u32; 1];
     let head = head_of(&values, 1);
-    let clocks = clock_lines(&values, 1, 0);
-    let tracks = track_lines(&values, 1, 0);
-    let sends = send_lines(&values, 1, 0);
-    let routes = route_lines(&values, 1, 0);
-    let sounds = sound_lines(&values, 1, 0);
+    let clocks = lines(&values, 1, column::CLOCK_COLUMNS, 0);
+    let tracks = lines(&values, 1, column::TRACK_COLUMNS, 0);
+    let sends = lines(&values, 1, column::SEND_COLUMNS, 0);
+    let routes = lines(&values, 1, column::ROUTE_COLUMNS, 0);
+    let sounds = lines(&values, 1, column::SOUND_COLUMNS, 0);
     let plain = TrackPlacing {
         placing: Placing::Plain,
     };
     let placings = [plain; TRACK_LINES];
-    let orders = order_lines(&values, 1, 0);
+    let orders = lines(&values, 1, column::ORDER_COLUMNS, 0);
     Scene {
         head,
         clock_count: 0,

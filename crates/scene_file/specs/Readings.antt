@@ -1,15 +1,11 @@
 -- What the leaf functions of src/ give, in the words of Grammar.antt.
-use Rattle.std.specs.Prelude.{◌≡◌, Bool, true, false, ◌&&◌, cond, List, [], ◌∷◌, ◌++◌, map, ℕ, suc, ◌+◌, ◌-◌, ◌*◌, ◌≤◌, leb, eqb, length, get_or, take, drop, replicate}
+use Rattle.std.specs.Prelude.{Option, Some, None, ◌≡◌, Bool, true, false, ◌&&◌, cond, List, [], ◌∷◌, ◌++◌, map, ℕ, suc, ◌+◌, ◌-◌, ◌*◌, ◌≤◌, leb, eqb, length, get_or, take, drop, replicate}
 use Rattle.laws.specs.Pieces.{begun, put_at}
 use Rattle.scene_file.specs.declared.grammar.TableRead.{TableRead}
 use Rattle.scene_file.specs.declared.grammar.Layout.{Layout}
-use Rattle.scene_file.specs.declared.numbers.Magnitude.{Magnitude}
-use Rattle.scene_file.specs.declared.numbers.Number.{Number}
 use Rattle.scene_tables.specs.Bytes.{bytes_of, same_bytes, all, joined}
 use Rattle.scene_file.specs.Grammar.{is_digit, is_whole, digits_after, is_number, value_of, lines_of, fields_of, sections_of, is_row, is_table, rows_of, are_tables, tables_of}
 use Rattle.scene_tables.specs.Tables.{Table, tables, width, raised, raised_minus}
-use Rattle.scene_file.specs.declared.numbers.Magnitude.TheVariants as M
-use Rattle.scene_file.specs.declared.numbers.Number.TheVariants as N
 
 -- the rest of a slice from a place on, as code lends it
 abbrev pub tail_of : List ℕ → ℕ → List ℕ
@@ -21,19 +17,19 @@ position_of b [] = 0
 position_of b (x ∷ l) = cond (eqb x b) 0 (suc (position_of b l))
 
 -- what digits stand for, up to 2^31
-unfoldable pub magnitude_of : List ℕ → Magnitude
-magnitude_of l = cond (all is_digit l && leb (digits_after 0 l) 2147483648) (M.Is (digits_after 0 l)) M.Not
+unfoldable pub magnitude_of : List ℕ → Option ℕ
+magnitude_of l = cond (all is_digit l && leb (digits_after 0 l) 2147483648) (Some (digits_after 0 l)) None
 
 -- a whole number, and one after a minus, raised by 2^31
-unfoldable pub positive_of : List ℕ → Number
-positive_of l = cond (is_whole l && leb (digits_after 0 l) 2147483647) (N.Is (raised (digits_after 0 l))) N.Not
+unfoldable pub positive_of : List ℕ → Option ℕ
+positive_of l = cond (is_whole l && leb (digits_after 0 l) 2147483647) (Some (raised (digits_after 0 l))) None
 
-unfoldable pub negative_of : List ℕ → Number
+unfoldable pub negative_of : List ℕ → Option ℕ
 negative_of l =
-    cond (is_whole l && leb 1 (digits_after 0 l) && leb (digits_after 0 l) 2147483648) (N.Is (raised_minus (digits_after 0 l))) N.Not
+    cond (is_whole l && leb 1 (digits_after 0 l) && leb (digits_after 0 l) 2147483648) (Some (raised_minus (digits_after 0 l))) None
 
-unfoldable pub number_of : List ℕ → Number
-number_of l = cond (is_number l) (N.Is (value_of l)) N.Not
+unfoldable pub number_of : List ℕ → Option ℕ
+number_of l = cond (is_number l) (Some (value_of l)) None
 
 -- ---- what is read of a line, of a table, of the file. Numbers are written one after the other, and no more once a line is refused; `before` and
 -- `after` are their buffer.

@@ -3,7 +3,7 @@ ghost use Rattle.std.specs.Prelude.{◌≡◌, ◌≤◌, ◌+◌, length};
 ghost use Rattle.scene_file.specs.Grammar.{line_feed};
 ghost use Rattle.scene_file.specs.Readings.{tail_of, position_of, RowRead, RowsRead, SectionRead, LayoutRead, no_rows, no_layout};
 
-use crate::numbers::{Number, find, number_of, same};
+use crate::numbers::{find, number_of, same};
 use scene_tables::{TABLES, names_text, rule_of};
 
 // The value lines of one table: how many, where the next line of the file and the next number
@@ -36,16 +36,12 @@ fn row(line: &[u8], width: usize, values: &mut [u32], at: usize) -> bool
     while from <= line.len() {
         let rest = &line[from..];
         let n = find(rest, b' ');
-        match number_of(&rest[..n]) {
-            Number::Is(z) => {
-                values[at + j] = z;
-                j += 1;
-                from = from + n + 1;
-            }
-            Number::Not => {
-                return false;
-            }
-        }
+        let Some(z) = number_of(&rest[..n]) else {
+            return false;
+        };
+        values[at + j] = z;
+        j += 1;
+        from = from + n + 1;
     }
     j == width
 }

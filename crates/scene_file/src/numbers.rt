@@ -7,84 +7,50 @@ ghost use Rattle.scene_tables.specs.Bytes.{same_bytes as same_bytes};
 
 use scene_tables::ZERO;
 
-#[derive(Clone, Copy)]
-pub enum Magnitude {
-    Is(u64),
-    Not,
-}
-
-// A number raised by 2^31.
-#[derive(Clone, Copy)]
-pub enum Number {
-    Is(u32),
-    Not,
-}
-
 // The place of the first such byte, or the length.
 pub fn find(s: &[u8], byte: u8) -> usize
     ensures { result ≡ position_of byte s.now }
 {
-    let mut i = 0;
-    while i < s.len() {
-        if s[i] == byte {
+    for (i, b) in s.iter().enumerate() {
+        if *b == byte {
             return i;
         }
-        i += 1;
     }
-    i
+    s.len()
 }
 
 pub fn same(a: &[u8], b: &[u8]) -> bool
     ensures { result ≡ same_bytes a.now b.now }
 {
-    if a.len() != b.len() {
-        return false;
-    }
-    let mut i = 0;
-    while i < a.len() {
-        if a[i] != b[i] {
-            return false;
-        }
-        i += 1;
-    }
-    true
-}
-
-fn wide(b: u8) -> u64
-    ensures { result ≡ b }
-{
-    b as u64
+    a == b
 }
 
 // What digits stand for, up to 2^31.
-pub fn magnitude_of(s: &[u8]) -> Magnitude
+pub fn magnitude_of(s: &[u8]) -> Option<u64>
     ensures { result ≡ magnitude_of s.now }
 {
     let mut m: u64 = 0;
-    let mut i = 0;
-    while i < s.len() {
-        let b = s[i];
-        if b < 48 {
-            return Magnitude::Not;
+    for b in s {
+        if *b < 48 {
+            return None;
         }
-        if 57 < b {
-            return Magnitude::Not;
+        if 57 < *b {
+            return None;
         }
-        m = m * 10 + (wide(b) - 48);
+        m = m * 10 + (u64::from(*b) - 48);
         if 2147483648 < m {
-            return Magnitude::Not;
+            return None;
         }
-        i += 1;
     }
-    Magnitude::Is(m)
+    Some(m)
 }
 
-// A field as a number.
-pub fn number_of(s: &[u8]) -> Number
+// A field as a number, raised by 2^31.
+pub fn number_of(s: &[u8]) -> Option<u32>
     ensures { result ≡ number_of s.now }
 {
     if s.len() == 0 {
-        return Number::Not;
+        return None;
     }
     if s[0] == 45 {
         return negative_of(&s[1..]);
@@ -101,49 +67,41 @@ fn leading_zero(s: &[u8]) -> bool
     s[0] == 48
 }
 
-fn positive_of(s: &[u8]) -> Number
+fn positive_of(s: &[u8]) -> Option<u32>
     ensures { result ≡ positive_of s.now }
 {
     if s.len() == 0 {
-        return Number::Not;
+        return None;
     }
     if leading_zero(s) {
-        return Number::Not;
+        return None;
     }
-    match magnitude_of(s) {
-        Magnitude::Is(m) => {
-            if m < 2147483648 {
-                Number::Is(2147483648 + (m as u32))
-            } else {
-                Number::Not
-            }
-        }
-        Magnitude::Not => Number::Not,
+    let m = magnitude_of(s)?;
+    if m < 2147483648 {
+        Some(2147483648 + (m as u32))
+    } else {
+        None
     }
 }
 
-fn negative_of(s: &[u8]) -> Number
+fn negative_of(s: &[u8]) -> Option<u32>
     ensures { result ≡ negative_of s.now }
 {
     if s.len() == 0 {
-        return Number::Not;
+        return None;
     }
     if leading_zero(s) {
-        return Number::Not;
+        return None;
     }
-    match magnitude_of(s) {
-        Magnitude::Is(m) => {
-            if 0 < m {
-                if m <= 2147483648 {
-                    Number::Is((2147483648 - m) as u32)
-                } else {
-                    Number::Not
-                }
-            } else {
-                Number::Not
-            }
+    let m = magnitude_of(s)?;
+    if 0 < m {
+        if m <= 2147483648 {
+            Some((2147483648 - m) as u32)
+        } else {
+            None
         }
-        Magnitude::Not => Number::Not,
+    } else {
+        None
     }
 }
 

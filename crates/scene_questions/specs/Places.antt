@@ -6,7 +6,7 @@ use Rattle.scene_tables.specs.declared.tables.LineRule.{LineRule}
 use Rattle.scene_tables.specs.Bytes.{every}
 use Rattle.scene_tables.specs.Tables.{Table, tables, table_at, no_field, width}
 use Rattle.scene_tables.specs.InCode.{all_fields}
-use Rattle.scene_questions.specs.Questions.{Tables, Question, in_range, names_line, line_in_range, line_names_line}
+use Rattle.scene_questions.specs.Questions.{Tables, in_range, names_line, line_in_range, line_names_line}
 
 -- a list cut in n lines of w numbers
 unfoldable pub cut : ℕ → ℕ → List ℕ → List (List ℕ)
@@ -68,11 +68,3 @@ places_most = 100000
 
 abbrev pub Low : List ℕ → List ℕ → Type 0
 Low starts counts = (t : ℕ) → t < length tables → get_or starts t 0 + get_or counts t 0 * width (table_at t) ≤ places_most
-
--- samples that question 9 looks at in one run
-abbrev pub run_most : ℕ
-run_most = 4096
-
--- the question at a place of a list, counted from 0; beyond the list one that says yes
-abbrev pub question_at : List Question → ℕ → Question
-question_at questions i = get_or questions i (0, true)

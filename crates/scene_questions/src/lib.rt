@@ -9,4 +9,4 @@ mod tracks;
 
 pub use lengths::size_ok;
 pub use samples::{samples_ok, sounds_fit};
-pub use tracks::{depths_fit, placings_fit, routes_fit};
+pub use tracks::{depths_fit, parent_of, placings_fit, routes_fit};

@@ -1,17 +1,18 @@
 // Questions 8 and 9, of one sample buffer.
-ghost use Rattle.std.specs.Prelude.{◌≡◌, not, ◌+◌, ◌-◌, ◌*◌, ◌≤◌, ◌<◌, length, get_or};
+ghost use Rattle.std.specs.Prelude.{◌≡◌, not, ◌&&◌, ◌+◌, ◌-◌, ◌*◌, ◌/◌, ◌≤◌, ◌<◌, length, get_or};
 ghost use Rattle.std.specs.Float.{nan};
-ghost use Rattle.laws.specs.Count.{counted, if_picked};
+ghost use Rattle.laws.specs.Count.{counted};
+ghost use Rattle.scene_tables.specs.Bytes.{every};
 ghost use Rattle.scene_tables.specs.Tables.{table_at, width, sounds};
 ghost use Rattle.scene_questions.specs.Questions.{sound_fits, sounds_fit, sample_ok, samples_ok};
-ghost use Rattle.scene_questions.specs.Places.{rows_in, places_most, run_most};
+ghost use Rattle.scene_questions.specs.Places.{rows_in, places_most};
 
 use scene_file::{at, natural_of};
 use scene_tables::column::{SOUND_COLUMNS, SOUND_COUNT, SOUND_FIRST, SOUND_FROM};
+use std::simd::prelude::*;
 
-// Samples that are asked after at once: few enough for a count to be a u32, many enough for a loop that
-// is vectorised.
-const RUN: usize = 4096;
+// The largest sample; the least is -MOST.
+const MOST: f32 = 1.0;
 
 // Whether a sound's frames are there, if it is from this buffer.
 fn sound_fits(
@@ -44,68 +45,59 @@ pub fn sounds_fit(values: &[u32], start: usize, lines: usize, from: usize, sampl
         return false;
     }
     let frames = samples.len() / 2;
-    let mut i = 0;
-    while i < lines {
-        if !sound_fits(values, start, lines, from, frames, i) {
-            return false;
-        }
-        i += 1;
-    }
-    true
+    (0..lines).all(|i| sound_fits(values, start, lines, from, frames, i))
 }
 
 fn sample_ok(x: f32) -> bool
     ensures { result ≡ sample_ok x }
 {
-    if -1.0 <= x {
-        return x <= 1.0;
-    }
-    false
+    -MOST <= x && x <= MOST
 }
 
-fn refusal(x: f32) -> u32
-    ensures { result ≡ if_picked (not (sample_ok x)) }
+// Whether the four samples from a place on are all right, asked at once.
+fn four_ok(samples: &[f32], at: usize) -> bool
+    requires { at + 4 ≤ length samples.now }
+    ensures { result ≡ sample_ok (get_or samples.now at nan) && sample_ok (get_or samples.now (at + 1) nan) && sample_ok (get_or samples.now (at + 2) nan) && sample_ok (get_or samples.now (at + 3) nan) }
 {
-    if sample_ok(x) { 0 } else { 1 }
+    let x = f32x4::from_array([
+        samples[at],
+        samples[at + 1],
+        samples[at + 2],
+        samples[at + 3],
+    ]);
+    (f32x4::splat(-MOST).simd_le(x) & x.simd_le(f32x4::splat(MOST))).all()
 }
 
-// How many samples of a run are refused. They are counted, since a flag would keep the loop from
-// vectorising.
-fn refused(samples: &[f32], first: usize, to: usize) -> u32
-    requires { (first ≤ to) × (to ≤ length samples.now) × (to ≤ first + run_most) }
-    ensures { result ≡ counted (λ j. not (sample_ok (get_or samples.now (first + j) nan))) (to - first) }
+// How many samples are refused.
+fn refused(samples: &[f32]) -> usize
+    ensures { result ≡ counted (λ i. not (sample_ok (get_or samples.now i nan))) (length samples.now) }
 {
     let mut count = 0;
-    let mut i = first;
-    while i < to {
-        count += refusal(samples[i]);
-        i += 1;
+    for x in samples {
+        count += usize::from(!sample_ok(*x));
     }
     count
 }
 
-// Where the run that begins at `first` ends.
-fn run_end(first: usize, end: usize) -> usize
-    requires { first < end }
-    ensures { (first < result) × (result ≤ end) × (result ≤ first + run_most) }
+// The whole fours of samples.
+fn fours_ok(samples: &[f32]) -> bool
+    ensures { result ≡ every (length samples.now / 4 * 4) (λ i. sample_ok (get_or samples.now i nan)) }
 {
-    if end - first <= RUN {
-        return end;
+    for i in 0..samples.len() / 4 {
+        if !four_ok(samples, i * 4) {
+            return false;
+        }
     }
-    first + RUN
+    true
 }
 
-// Question 9, a run at a time.
+// Question 9. Comparisons of one float at a time don't vectorise, so four are asked at once. The
+// refused samples of the rest are counted.
 pub fn samples_ok(samples: &[f32]) -> bool
     ensures { result ≡ samples_ok samples.now }
 {
-    let mut first = 0;
-    while first < samples.len() {
-        let to = run_end(first, samples.len());
-        if refused(samples, first, to) != 0 {
-            return false;
-        }
-        first = to;
+    if !fours_ok(samples) {
+        return false;
     }
-    true
+    refused(&samples[samples.len() / 4 * 4..]) == 0
 }

@@ -1,8 +1,8 @@
 // Questions 6 and 7, of the numbers in their places.
-ghost use Rattle.std.specs.Prelude.{◌≡◌, ◌+◌, ◌*◌, ◌≤◌, ◌<◌};
+ghost use Rattle.std.specs.Prelude.{◌≡◌, ◌+◌, ◌*◌, ◌≤◌, ◌<◌, eqb};
 ghost use Rattle.limits.specs.Limits.{track_depth};
-ghost use Rattle.scene_tables.specs.Tables.{table_at, width, tracks, routes, placings};
-ghost use Rattle.scene_questions.specs.Questions.{parent_of, within_depth, depths_fit, same_pair, new_pair, routes_fit, new_placing, placings_fit};
+ghost use Rattle.scene_tables.specs.Tables.{table_at, width, tracks, routes, placings, placing_column};
+ghost use Rattle.scene_questions.specs.Questions.{cell, parent_of, within_depth, depths_fit, same_pair, new_pair, routes_fit, new_placing, placings_fit};
 ghost use Rattle.scene_questions.specs.Places.{rows_in, places_most};
 
 use limits::TRACK_DEPTH;
@@ -13,7 +13,7 @@ use scene_tables::column::{
 };
 
 // The parent of a track line; lines count from 1, and 0 is the mixer.
-fn parent_of(values: &[u32], start: usize, lines: usize, line: usize) -> usize
+pub fn parent_of(values: &[u32], start: usize, lines: usize, line: usize) -> usize
     requires { start + lines * width (table_at tracks) ≤ places_most }
     ensures { result ≡ parent_of (rows_in values.now start (width (table_at tracks)) lines) line }
 {
@@ -32,13 +32,11 @@ fn within_depth(values: &[u32], start: usize, lines: usize, track: usize) -> boo
     ensures { result ≡ within_depth track_depth (rows_in values.now start (width (table_at tracks)) lines) track }
 {
     let mut line = track;
-    let mut d = TRACK_DEPTH;
-    while 0 < d {
+    for _ in 0..TRACK_DEPTH {
         if line == 0 {
             return true;
         }
         line = parent_of(values, start, lines, line);
-        d -= 1;
     }
     line == 0
 }
@@ -48,14 +46,7 @@ pub fn depths_fit(values: &[u32], start: usize, lines: usize) -> bool
     requires { start + lines * width (table_at tracks) ≤ places_most }
     ensures { result ≡ depths_fit (rows_in values.now start (width (table_at tracks)) lines) }
 {
-    let mut i = 0;
-    while i < lines {
-        if !within_depth(values, start, lines, i + 1) {
-            return false;
-        }
-        i += 1;
-    }
-    true
+    (0..lines).all(|i| within_depth(values, start, lines, i + 1))
 }
 
 // Whether two lines route the same pair.
@@ -79,14 +70,7 @@ fn new_pair(values: &[u32], start: usize, lines: usize, i: usize) -> bool
     requires line_in_range { i < lines }
     ensures { result ≡ new_pair (rows_in values.now start (width (table_at routes)) lines) i }
 {
-    let mut k = 0;
-    while k < i {
-        if same_pair(values, start, lines, i, k) {
-            return false;
-        }
-        k += 1;
-    }
-    true
+    (0..i).all(|k| !same_pair(values, start, lines, i, k))
 }
 
 // Question 7, of the routes.
@@ -94,14 +78,20 @@ pub fn routes_fit(values: &[u32], start: usize, lines: usize) -> bool
     requires { start + lines * width (table_at routes) ≤ places_most }
     ensures { result ≡ routes_fit (rows_in values.now start (width (table_at routes)) lines) }
 {
-    let mut i = 0;
-    while i < lines {
-        if !new_pair(values, start, lines, i) {
-            return false;
-        }
-        i += 1;
-    }
-    true
+    (0..lines).all(|i| new_pair(values, start, lines, i))
+}
+
+// Whether two lines place the same track.
+fn same_track(values: &[u32], start: usize, lines: usize, i: usize, k: usize) -> bool
+    requires table_in_range { start + lines * width (table_at placings) ≤ places_most }
+    requires line_in_range { i < lines }
+    requires other_line_in_range { k < lines }
+    ensures { let rows = rows_in values.now start (width (table_at placings)) lines in
+        result ≡ eqb (cell rows i placing_column.track) (cell rows k placing_column.track) }
+{
+    let a = start + i * PLACING_COLUMNS;
+    let b = start + k * PLACING_COLUMNS;
+    at(values, a, PLACING_TRACK) == at(values, b, PLACING_TRACK)
 }
 
 // Whether no line before line i places its track.
@@ -110,15 +100,7 @@ fn new_placing(values: &[u32], start: usize, lines: usize, i: usize) -> bool
     requires line_in_range { i < lines }
     ensures { result ≡ new_placing (rows_in values.now start (width (table_at placings)) lines) i }
 {
-    let track = at(values, start + i * PLACING_COLUMNS, PLACING_TRACK);
-    let mut earlier = 0;
-    while earlier < i {
-        if track == at(values, start + earlier * PLACING_COLUMNS, PLACING_TRACK) {
-            return false;
-        }
-        earlier += 1;
-    }
-    true
+    (0..i).all(|k| !same_track(values, start, lines, i, k))
 }
 
 // Question 7, of the placings.
@@ -126,12 +108,5 @@ pub fn placings_fit(values: &[u32], start: usize, lines: usize) -> bool
     requires { start + lines * width (table_at placings) ≤ places_most }
     ensures { result ≡ placings_fit (rows_in values.now start (width (table_at placings)) lines) }
 {
-    let mut i = 0;
-    while i < lines {
-        if !new_placing(values, start, lines, i) {
-            return false;
-        }
-        i += 1;
-    }
-    true
+    (0..lines).all(|i| new_placing(values, start, lines, i))
 }

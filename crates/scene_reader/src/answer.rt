@@ -1,11 +1,11 @@
 // The answer to a file, its samples and an output's length.
-ghost use Rattle.std.specs.Prelude.{◌≡◌, ◌&&◌, ◌+◌, ◌*◌, ◌≤◌, ◌<◌};
+ghost use Rattle.std.specs.Prelude.{◌≡◌, ◌&&◌, ◌+◌, ◌*◌, ◌≤◌};
 ghost use Rattle.limits.specs.Limits.{block_frames_most, blocks_most, channels_most};
 ghost use Rattle.recordings.specs.Recordings.{recordings};
 ghost use Rattle.scene_tables.specs.Tables.{table_at, width, sounds, head_column};
 ghost use Rattle.scene_questions.specs.Questions.{head_cell, sounds_fit, first_no, answer};
-ghost use Rattle.scene_questions.specs.Places.{rows_in, stored, places_most, Low, question_at};
-ghost use Rattle.scene_reader.specs.Answer.{questions_of_tables, house_sounds, read_table_questions, read_questions, refusal, answered};
+ghost use Rattle.scene_questions.specs.Places.{rows_in, stored, places_most, Low};
+ghost use Rattle.scene_reader.specs.Answer.{read_table_questions, read_questions, number, number_of, said, refusal, answered};
 
 use limits::FILE_BYTES;
 use recordings::{HOUSE, VISITOR};
@@ -18,11 +18,29 @@ use scene_tables::{HEAD, PLACINGS, ROUTES, SOUNDS, TABLES, TRACKS, column};
 // Numbers that a file can have: each takes two bytes or more.
 const VALUES: usize = FILE_BYTES / 2 + 1;
 
-// The questions that are asked of the tables, by their numbers. Question 7 is asked of the routes, then of
-// the placings, and 8 and 9 each of the house's samples, then of the visitor's.
-const QUESTIONS: usize = 10;
+// The question that says no, by its number. Question 7 is asked of the routes, then of the placings, and
+// 8 and 9 each of the house's samples, then of the visitor's.
+#[derive(Clone, Copy, PartialEq, Eq, Debug)]
+pub enum Question {
+    Size = 1,
+    Spelling = 2,
+    Lines = 3,
+    Ranges = 4,
+    References = 5,
+    Depths = 6,
+    Twice = 7,
+    Sounds = 8,
+    Samples = 9,
+    Output = 10,
+}
 
-const NUMBERS: [u32; QUESTIONS] = [3, 4, 5, 6, 7, 7, 8, 8, 9, 9];
+impl From<Question> for u32 {
+    ghost from_gives = { λ question n. n ≡ number question };
+
+    fn from(question: Question) -> u32 {
+        question as u32
+    }
+}
 
 // The number of the first question that says no, and the scene where it is 0.
 #[derive(Clone, Copy)]
@@ -59,36 +77,14 @@ fn sounds_pass(
     false
 }
 
-// Whether the question at a place, counted from 0, says yes: one of those that look at the samples.
-fn samples_pass<'a>(
-    place: usize,
-    values: &[u32],
-    starts: &[usize; TABLES],
-    counts: &[usize; TABLES],
-    samples: &'a [f32],
-    visitor: &'a [f32],
-    whole: bool,
-    visitor_whole: bool,
-) -> bool
-    requires tables_in_range { Low starts.now counts.now }
-    requires question_on_samples { (house_sounds ≤ place) × (place < questions_of_tables) }
-    ensures { let tables = stored starts.now counts.now values.now in
-        let heard = recordings samples.now visitor.now in
-        result ≡ (question_at (read_table_questions tables heard whole visitor_whole) place).1 }
+fn ask(yes: bool, question: Question) -> Result<(), Question>
+    ensures { result ≡ said yes question }
 {
-    let start = starts[SOUNDS];
-    let lines = counts[SOUNDS];
-    match place {
-        6 => sounds_pass(whole, values, start, lines, HOUSE, samples),
-        7 => sounds_pass(visitor_whole, values, start, lines, VISITOR, visitor),
-        8 => samples_ok(samples),
-        _ => samples_ok(visitor),
-    }
+    if yes { Ok(()) } else { Err(question) }
 }
 
-// Whether the question at a place, counted from 0, says yes.
-fn passes<'a>(
-    place: usize,
+// The questions that are asked of the tables, in their order.
+fn ask_tables<'a>(
     values: &[u32],
     starts: &[usize; TABLES],
     counts: &[usize; TABLES],
@@ -96,78 +92,56 @@ fn passes<'a>(
     visitor: &'a [f32],
     whole: bool,
     visitor_whole: bool,
-) -> bool
-    requires tables_in_range { Low starts.now counts.now }
-    requires question_in_range { place < questions_of_tables }
-    ensures { let tables = stored starts.now counts.now values.now in
-        let heard = recordings samples.now visitor.now in
-        result ≡ (question_at (read_table_questions tables heard whole visitor_whole) place).1 }
-{
-    match place {
-        0 => counts_fit(counts),
-        1 => tables_pass(
-            false,
-            values,
-            starts,
-            counts,
-            blocks_of(values, starts, counts),
-        ),
-        2 => tables_pass(true, values, starts, counts, 0),
-        3 => depths_fit(values, starts[TRACKS], counts[TRACKS]),
-        4 => routes_fit(values, starts[ROUTES], counts[ROUTES]),
-        5 => placings_fit(values, starts[PLACINGS], counts[PLACINGS]),
-        _ => samples_pass(
-            place,
-            values,
-            starts,
-            counts,
-            samples,
-            visitor,
-            whole,
-            visitor_whole,
-        ),
-    }
-}
-
-// The number of the first question of the tables that says no, or 0.
-fn first_no<'a>(
-    values: &[u32],
-    starts: &[usize; TABLES],
-    counts: &[usize; TABLES],
-    samples: &'a [f32],
-    visitor: &'a [f32],
-    whole: bool,
-    visitor_whole: bool,
-) -> u32
+) -> Result<(), Question>
     requires { Low starts.now counts.now }
     ensures { let tables = stored starts.now counts.now values.now in
         let heard = recordings samples.now visitor.now in
-        result ≡ first_no (read_table_questions tables heard whole visitor_whole) }
+        number_of result ≡ first_no (read_table_questions tables heard whole visitor_whole) }
 {
-    let mut place = 0;
-    while place < QUESTIONS {
-        if !passes(
-            place,
-            values,
-            starts,
-            counts,
-            samples,
-            visitor,
-            whole,
-            visitor_whole,
-        ) {
-            return NUMBERS[place];
-        }
-        place += 1;
-    }
-    0
+    let blocks = blocks_of(values, starts, counts);
+    let sounds = starts[SOUNDS];
+    let lines = counts[SOUNDS];
+    ask(counts_fit(counts), Question::Lines)?;
+    ask(
+        tables_pass(false, values, starts, counts, blocks),
+        Question::Ranges,
+    )?;
+    ask(
+        tables_pass(true, values, starts, counts, 0),
+        Question::References,
+    )?;
+    ask(
+        depths_fit(values, starts[TRACKS], counts[TRACKS]),
+        Question::Depths,
+    )?;
+    ask(
+        routes_fit(values, starts[ROUTES], counts[ROUTES]),
+        Question::Twice,
+    )?;
+    ask(
+        placings_fit(values, starts[PLACINGS], counts[PLACINGS]),
+        Question::Twice,
+    )?;
+    ask(
+        sounds_pass(whole, values, sounds, lines, HOUSE, samples),
+        Question::Sounds,
+    )?;
+    ask(
+        sounds_pass(visitor_whole, values, sounds, lines, VISITOR, visitor),
+        Question::Sounds,
+    )?;
+    ask(samples_ok(samples), Question::Samples)?;
+    ask(samples_ok(visitor), Question::Samples)
 }
 
-fn refused(number: u32) -> Answer
-    ensures { result ≡ refusal number }
+fn refused(question: Question) -> Answer
+    ensures { result ≡ refusal (number question) }
 {
     let scene = no_scene();
-    Answer { number, scene }
+    Answer {
+        number: question.into(),
+        scene,
+    }
 }
 
 // Questions 1 to 9, of samples that may have been cut short. The scene where none says no.
@@ -182,16 +156,16 @@ pub fn read_input<'a>(
         result ≡ answered file.now (first_no (read_questions file.now heard whole visitor_whole)) }
 {
     if !size_ok(file) {
-        return refused(1);
+        return refused(Question::Size);
     }
     let mut values = [0u32; VALUES];
     let layout = read_tables(file, &mut values);
     if !layout.ok {
-        return refused(2);
+        return refused(Question::Spelling);
     }
     let starts = layout.starts;
     let counts = layout.counts;
-    let number = first_no(
+    let asked = ask_tables(
         &values,
         &starts,
         &counts,
@@ -200,8 +174,8 @@ pub fn read_input<'a>(
         whole,
         visitor_whole,
     );
-    if number != 0 {
-        return refused(number);
+    if let Err(question) = asked {
+        return refused(question);
     }
     let scene = scene_of(&values, &starts, &counts);
     Answer { number: 0, scene }
@@ -230,5 +204,5 @@ pub fn read_scene<'a>(file: &[u8], samples: &'a [f32], visitor: &'a [f32], outpu
     if output == output_length(head) {
         return answer;
     }
-    refused(10)
+    refused(Question::Output)
 }

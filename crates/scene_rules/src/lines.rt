@@ -1,7 +1,7 @@
 // Questions 3, 4 and 5, of the numbers in their places.
-ghost use Rattle.std.specs.Prelude.{◌≡◌, ◌+◌, ◌*◌, ◌≤◌, ◌<◌, length, get_or, drop};
+ghost use Rattle.std.specs.Prelude.{◌≡◌, ◌&&◌, ◌+◌, ◌*◌, ◌≤◌, ◌<◌, leb, length, get_or, drop};
 ghost use Rattle.clock.specs.ClockSpeed.{allowed_speed};
-ghost use Rattle.scene_tables.specs.Tables.{tables};
+ghost use Rattle.scene_tables.specs.Tables.{tables, table_at};
 ghost use Rattle.scene_tables.specs.InCode.{all_fields};
 ghost use Rattle.scene_questions.specs.Questions.{in_range, names_line, index_table, index_names_line};
 ghost use Rattle.scene_questions.specs.Questions.{speed_of, volume_fits, part_fits, millis_fit, power_fits, order_fits};
@@ -21,23 +21,20 @@ fn count_of(counts: &[usize; TABLES], t: usize) -> usize
     if t < TABLES { counts[t] } else { 0 }
 }
 
+// Whether a table may have so many lines.
+fn count_fits(t: usize, lines: usize) -> bool
+    requires { t < length tables }
+    ensures { result ≡ (leb (table_at t).least lines && leb lines (table_at t).most) }
+{
+    let rule = rule_of(t);
+    rule.least <= lines && lines <= rule.most
+}
+
 // Question 3.
 pub fn counts_fit(counts: &[usize; TABLES]) -> bool
     ensures { result ≡ counts_fit counts.now }
 {
-    let mut t = 0;
-    while t < TABLES {
-        let rule = rule_of(t);
-        let n = counts[t];
-        if n < rule.least {
-            return false;
-        }
-        if rule.most < n {
-            return false;
-        }
-        t += 1;
-    }
-    true
+    (0..TABLES).all(|t| count_fits(t, counts[t]))
 }
 
 fn in_range(f: Field, z: u32) -> bool
@@ -101,8 +98,7 @@ fn fields_pass(
     requires { first + width ≤ length (all_fields tables) }
     ensures { result ≡ fields_pass references (count_at counts.now) first width own values.now a }
 {
-    let mut j = 0;
-    while j < width {
+    for j in 0..width {
         if !field_passes(
             references,
             field_of(first + j),
@@ -112,7 +108,6 @@ fn fields_pass(
         ) {
             return false;
         }
-        j += 1;
     }
     true
 }
@@ -293,9 +288,8 @@ fn table_passes(
     requires table_in_range { start + lines * width ≤ places_most }
     ensures { result ≡ table_passes references (count_at counts.now) blocks rule first width values.now start lines }
 {
-    let mut i = 0;
     let mut a = start;
-    while i < lines {
+    for i in 0..lines {
         if !fields_pass(references, first, width, i, values, a, counts) {
             return false;
         }
@@ -303,7 +297,6 @@ fn table_passes(
             return false;
         }
         a += width;
-        i += 1;
     }
     true
 }
@@ -319,9 +312,8 @@ pub fn tables_pass(
     requires { Low starts.now counts.now }
     ensures { result ≡ tables_pass references (count_at counts.now) blocks starts.now counts.now values.now }
 {
-    let mut t = 0;
     let mut first = 0;
-    while t < TABLES {
+    for t in 0..TABLES {
         let rule = rule_of(t);
         let kind = rule.rule;
         let width = rule.fields;
@@ -333,7 +325,6 @@ pub fn tables_pass(
             return false;
         }
         first += width;
-        t += 1;
     }
     true
 }

@@ -36,8 +36,7 @@ fn is_inside_silent(
         result ≡ inside ts (muted_or_held ts) line }
 {
     let mut reached = line;
-    let mut steps = line;
-    while 0 < steps {
+    for _ in 0..line {
         if reached == 0 {
             return false;
         }
@@ -45,7 +44,6 @@ fn is_inside_silent(
             return true;
         }
         reached = parent_of(values, starts, counts, reached);
-        steps -= 1;
     }
     false
 }
@@ -86,9 +84,7 @@ pub fn put_silences(
     ensures { let ts = stored starts.now counts.now values.now in
         numbers.new ≡ changed (λ t before. silence_of ts t) (length numbers.old) numbers.old }
 {
-    let mut t = 0;
-    while t < numbers.len() {
-        numbers[t] = silence_of(values, starts, counts, t);
-        t += 1;
+    for (t, number) in numbers.iter_mut().enumerate() {
+        *number = silence_of(values, starts, counts, t);
     }
 }

@@ -8,8 +8,7 @@ use Rattle.recordings.specs.Recordings.{Recordings, from_house, from_visitor}
 use Rattle.scene_tables.specs.Tables.{tracks, routes, sounds, placings}
 use Rattle.scene_file.specs.Grammar.{tables_of}
 use Rattle.scene_questions.specs.Questions.{Tables, rows_at, size_ok, spelled_ok, lines_ok, ranges_ok, references_ok, depths_fit, routes_fit, placings_fit, sounds_fit, samples_ok, output_length, first_no, table_questions, input_questions, answer}
-use Rattle.scene_questions.specs.Places.{question_at}
-use Rattle.scene_questions.proofs.laws.FirstNo.{numbered, yes_at}
+use Rattle.scene_questions.proofs.laws.FirstNo.{question_at, numbered, yes_at}
 
 -- questions 3 to 10, of the tables
 pub record TablesPass (ts : Tables) (samples : Recordings) (output : ℕ) : Type 0 where

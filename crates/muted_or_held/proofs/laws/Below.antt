@@ -7,11 +7,10 @@ use native.Mathlib.Omega.{arith}
 use borrow.Author.Tests.{eq-eqb, ne_eqb}
 use lib.Dec.{eqb, lit<}
 use lib.ListN.{get_or}
-use Rattle.scene_tables.specs.Tables.{natural, table_at, width, tracks, routes, track_column, route_column}
+use Rattle.scene_tables.specs.Tables.{natural, table_at, width, tracks, routes, route_column}
 use Rattle.scene_questions.specs.Questions.{Tables, rows_at, cell, parent_of}
 use Rattle.scene_questions.specs.Places.{rows_in, stored}
 use Rattle.noninterference.specs.Removed.{Choice, inside_within, inside, removed_track, names_removed}
-use Rattle.scene_questions.proofs.laws.LineQuestions.{parent_mixer, parent_beyond, parent_there}
 use Rattle.scene.proofs.laws.TablesInPlaces.{rows_placed}
 use Rattle.muted_or_held.proofs.laws.Places.{cell-stored}
 
@@ -21,17 +20,8 @@ module _ (starts counts v : List ℕ) (line : ℕ) where
   abbrev rows : List (List ℕ)
   rows = rows_at (stored starts counts v) tracks
 
-  placed : {r : ℕ} → r ≡ parent_of (rows_in v (get_or starts tracks 0) (width (table_at tracks)) (get_or counts tracks 0)) line → r ≡ parent_of rows line
-  placed e = e ∙ ap (λ (l : List (List ℕ)). parent_of l line) (sym (rows_placed starts counts v tracks (lit< tt)))
-
-  pub mixer_has_none : line ≡ 0 → 0 ≡ parent_of rows line
-  mixer_has_none h = placed (parent_mixer v (get_or starts tracks 0) (get_or counts tracks 0) line h)
-
-  pub beyond_has_none : get_or counts tracks 0 < line → 0 ≡ parent_of rows line
-  beyond_has_none h = placed (parent_beyond v (get_or starts tracks 0) (get_or counts tracks 0) line h)
-
-  pub parent_read : (z r : ℕ) → (line ≡ 0 → ⊥) → line ≤ get_or counts tracks 0 → z ≡ get_or v (get_or starts tracks 0 + (line - 1) * width (table_at tracks) + track_column.parent) 0 → r ≡ natural z → r ≡ parent_of rows line
-  parent_read z r h k e q = placed (parent_there v (get_or starts tracks 0) (get_or counts tracks 0) line z r h k e q)
+  pub parent_placed : {r : ℕ} → r ≡ parent_of (rows_in v (get_or starts tracks 0) (width (table_at tracks)) (get_or counts tracks 0)) line → r ≡ parent_of rows line
+  parent_placed e = e ∙ ap (λ (l : List (List ℕ)). parent_of l line) (sym (rows_placed starts counts v tracks (lit< tt)))
 
 -- ---- from a line up, as many steps as its number
 

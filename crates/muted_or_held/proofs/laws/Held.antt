@@ -1,10 +1,11 @@
 -- Laws of held tracks, as the code asks for them. Assumes nothing.
-use mathlib.Core.Path.{◌≡◌, sym, ◌∙◌, ap}
+use mathlib.Core.Path.{◌≡◌, refl, sym, ◌∙◌, ap}
 use mathlib.Core.Bool.{Bool, true, false, cond, not}
 use mathlib.Core.List.{List}
 use Prim.Native.Nat.{ℕ, suc, ◌+◌, ◌≤◌}
 use native.Mathlib.Omega.{arith}
 use borrow.Author.Tests.{eq-eqb, ne_eqb, not-true, not-false}
+use mir.Val.{bool_byte}
 use lib.Dec.{eqb, lit<}
 use lib.ListN.{get_or}
 use Rattle.laws.specs.Loop.{upto}
@@ -62,6 +63,13 @@ or_more ts t i n = cond (pauses_or_resumes ts t i) (suc n) n
 module _ (ts : Tables) (t : ℕ) where
   pub count_begins : 0 ≡ upto (or_more ts t) 0 0
   count_begins = sym (upto_zero (or_more ts t) 0)
+
+  pub one_or_none : (i : ℕ) {b : Bool} {m : ℕ} → b ≡ pauses_or_resumes ts t i → m ≡ bool_byte b → m ≡ cond (pauses_or_resumes ts t i) 1 0
+  one_or_none i {b} e q = q ∙ by_case b ∙ ap (λ (x : Bool). cond x 1 0) e
+    where
+      by_case : (b : Bool) → bool_byte b ≡ cond b 1 0
+      by_case true = refl
+      by_case false = refl
 
   pub one_at_most : (i m : ℕ) → m ≡ cond (pauses_or_resumes ts t i) 1 0 → m ≤ 1
   one_at_most i m e = go (pauses_or_resumes ts t i) e

@@ -1,17 +1,13 @@
 -- Laws of the tables in their places: fields of their lines, and loops over all lines of one. Assumes nothing.
 use mathlib.Core.Path.{◌≡◌, sym, ◌∙◌, ap}
-use mathlib.Core.Bool.{Bool, true, false, not}
 use mathlib.Core.List.{List}
 use Prim.Native.Nat.{ℕ, ◌+◌, ◌*◌, ◌<◌, ◌≤◌}
-use borrow.Author.Tests.{not-true, not-false}
 use lib.ListN.{length, get_or}
-use Rattle.scene_tables.specs.Bytes.{every}
 use Rattle.scene_tables.specs.Tables.{tables, table_at, width}
-use Rattle.scene_questions.specs.Questions.{rows_at, lines_at, cell}
+use Rattle.scene_questions.specs.Questions.{rows_at, cell}
 use Rattle.scene_questions.specs.Places.{stored, Low, places_most}
-use Rattle.scene_tables.proofs.laws.Every.{every_failed, every_done}
 use Rattle.scene_questions.proofs.laws.Places.{cell_at, cell_beyond}
-use Rattle.scene.proofs.laws.TablesInPlaces.{rows_placed, lines_placed}
+use Rattle.scene.proofs.laws.TablesInPlaces.{rows_placed}
 
 pub table_low : (t : ℕ) → t < length tables → (starts counts : List ℕ) → Low starts counts → get_or starts t 0 + get_or counts t 0 * width (table_at t) ≤ places_most
 table_low t h starts counts low = low t h
@@ -28,19 +24,3 @@ module _ (t : ℕ) (there : t < length tables) (starts counts v : List ℕ) wher
     cell_none h =
         sym (cell_beyond v (get_or starts t 0) (width (table_at t)) (get_or counts t 0) i j h)
         ∙ ap (λ (rows : List (List ℕ)). cell rows i j) (sym (rows_placed starts counts v t there))
-
--- ---- every line passes a test
-
-module _ (t : ℕ) (there : t < length tables) (starts counts v : List ℕ) (f : ℕ → Bool) where
-  pub line_fails : (i : ℕ) → i < get_or counts t 0 → f i ≡ false → false ≡ every (lines_at (stored starts counts v) t) f
-  line_fails i h e = rw (lines_placed starts counts v t there) (every_failed (get_or counts t 0) f i h e)
-
-  pub lines_pass : (i : ℕ) → get_or counts t 0 ≤ i → i ≤ get_or counts t 0 → every i f ≡ true → true ≡ every (lines_at (stored starts counts v) t) f
-  lines_pass i h k e = rw (lines_placed starts counts v t there) (every_done (get_or counts t 0) f i h k e)
-
--- a test by its answer
-pub answer_no : {b x : Bool} → b ≡ x → not b ≡ true → x ≡ false
-answer_no {b} e h = sym e ∙ not-true b h
-
-pub answer_yes : {b x : Bool} → b ≡ x → not b ≡ false → x ≡ true
-answer_yes {b} e h = sym e ∙ not-false b h

@@ -4,7 +4,7 @@ use mathlib.Core.Path.{◌≡◌, refl}
 use mathlib.Core.List.{List}
 use Prim.Native.Nat.{ℕ, suc, ◌+◌, ◌*◌, ◌<◌}
 use lib.Ieee.{Float}
-use mathlib.Core.Option.{none, some}
+use Rattle.std.specs.Prelude.{None, Some}
 use mathlib.Core.Bool.{Bool, true, false, cond}
 use lib.Dec.{T}
 use Rattle.recordings.specs.Recordings.{Recordings}
@@ -89,7 +89,7 @@ admitted_given : (x : Float) → T (admitted x) → (amplitude_answer x).number 
 unfolding amplitude_answer
 admitted_given x h = go (admitted x) h
   where
-    go : (b : Bool) → T b → (cond {A = Answer} b (record { number = 0; value = some (amplitude x) }) (record { number = 11; value = none })).number ≡ 0
+    go : (b : Bool) → T b → (cond {A = Answer} b (record { number = 0; value = Some (amplitude x) }) (record { number = 11; value = None })).number ≡ 0
     go true t = refl
     go false t = absurd t
 

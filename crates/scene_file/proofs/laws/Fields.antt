@@ -2,6 +2,7 @@
 use mathlib.Core.Path.{◌≡◌, refl, sym, ◌∙◌, ap}
 use mathlib.Core.Bool.{Bool, true, false, cond, false≢true}
 use mathlib.Core.List.{List, [], ◌∷◌}
+use Rattle.std.specs.Prelude.{Option, Some, None}
 use Prim.Native.Nat.{ℕ, suc, ◌+◌, ◌*◌, ◌^◌, ◌<◌, ◌≤◌}
 use native.Mathlib.Nat.{add-zero, add-suc}
 use native.Mathlib.Numerals.{add-one}
@@ -13,7 +14,6 @@ use mir.Syntax.{w64}
 use mir.Val.{Fits}
 use lib.Seq.{drop-drop}
 use Rattle.laws.proofs.laws.Choice.{and_false, and_true}
-use Rattle.scene_file.specs.declared.numbers.Number.{Number}
 use Rattle.scene_tables.specs.Bytes.{all, onto}
 use Rattle.scene_file.specs.Grammar.{space, parted, fields_of, is_number, value_of, is_row}
 use Rattle.scene_file.specs.Readings.{position_of, number_of, numbers_of, RowRead, tail_of}
@@ -21,7 +21,6 @@ use Rattle.scene_file.proofs.laws.Numbers.{position_within}
 use Rattle.laws.proofs.laws.Pieces.{set_put}
 use Rattle.scene_file.proofs.laws.Written.{Written, written_start, written_more, written_end}
 use Rattle.scene_file.proofs.laws.Tails.{leb_same, tail_is, tail_length}
-use Rattle.scene_file.specs.declared.numbers.Number.TheVariants as N
 
 -- ---- fields by places
 
@@ -62,19 +61,19 @@ fields_next line from n h e =
 
 -- ---- a field that is a number, and one that is none
 
-num_cases : (b : Bool) (n z : ℕ) → cond b (N.Is n) N.Not ≡ N.Is z → (b ≡ true) × (n ≡ z)
+num_cases : (b : Bool) (n z : ℕ) → cond b (Some n) None ≡ Some z → (b ≡ true) × (n ≡ z)
 num_cases true n z e = (refl, cc)
 num_cases false n z e = let q : ◌≡◌ {A = ℕ} 0 1 = cc in absurd (omega arith)
 
-num_not : (b : Bool) (n : ℕ) → cond b (N.Is n) N.Not ≡ N.Not → b ≡ false
+num_not : (b : Bool) (n : ℕ) → cond b (Some n) None ≡ None → b ≡ false
 num_not true n e = let q : ◌≡◌ {A = ℕ} 0 1 = cc in absurd (omega arith)
 num_not false n e = refl
 
-pub number_known : (t : List ℕ) (r : Number) (z : ℕ) → r ≡ number_of t → r ≡ N.Is z → (is_number t ≡ true) × (value_of t ≡ z)
+pub number_known : (t : List ℕ) (r : Option ℕ) (z : ℕ) → r ≡ number_of t → r ≡ Some z → (is_number t ≡ true) × (value_of t ≡ z)
 unfolding number_of
 number_known t r z e k = num_cases (is_number t) (value_of t) z (sym e ∙ k)
 
-pub number_none : (t : List ℕ) (r : Number) → r ≡ number_of t → r ≡ N.Not → is_number t ≡ false
+pub number_none : (t : List ℕ) (r : Option ℕ) → r ≡ number_of t → r ≡ None → is_number t ≡ false
 unfolding number_of
 number_none t r e k = num_not (is_number t) (value_of t) (sym e ∙ k)
 
@@ -110,7 +109,7 @@ module _
     (at : ℕ)
     (before values : List ℕ)
     (j from n : ℕ)
-    (r : Number)
+    (r : Option ℕ)
     (room : at + at + length line + 1 ≤ length before + length before)
     (inv : RowLoop line at before values j from)
     (more : from ≤ length line)
@@ -129,7 +128,7 @@ module _
     pub row_add_one : length line * 1 < 2 ^ 63 → Fits w64 (from + n + 1)
     row_add_one h = let g : from + n ≤ length line = row_fits in omega arith
 
-    pub row_room : (z : ℕ) → r ≡ N.Is z → at + j < length values
+    pub row_room : (z : ℕ) → r ≡ Some z → at + j < length values
     row_room z k =
         let e = (number_known (take n (tail_of line from)) r z read k).0 in
         let f : 0 < n = row_filled e in
@@ -138,13 +137,13 @@ module _
         let l : length values ≡ length before = inv.kept in
         omega arith
 
-    pub row_add_place : (z : ℕ) → r ≡ N.Is z → length before * 4 < 2 ^ 63 → Fits w64 (at + j)
+    pub row_add_place : (z : ℕ) → r ≡ Some z → length before * 4 < 2 ^ 63 → Fits w64 (at + j)
     row_add_place z k h = let i : at + j < length values = row_room z k in let l : length values ≡ length before = inv.kept in omega arith
 
-    pub row_mul_place : (z : ℕ) → r ≡ N.Is z → length before * 4 < 2 ^ 63 → Fits w64 ((at + j) * 4)
+    pub row_mul_place : (z : ℕ) → r ≡ Some z → length before * 4 < 2 ^ 63 → Fits w64 ((at + j) * 4)
     row_mul_place z k h = let i : at + j < length values = row_room z k in let l : length values ≡ length before = inv.kept in omega arith
 
-    pub row_next : (z : ℕ) → r ≡ N.Is z → RowLoop line at before (set values (at + j) z) (j + 1) (from + n + 1)
+    pub row_next : (z : ℕ) → r ≡ Some z → RowLoop line at before (set values (at + j) z) (j + 1) (from + n + 1)
     unfolding all numbers_of
     row_next z k =
         let e = number_known (take n (tail_of line from)) r z read k in
@@ -162,7 +161,7 @@ module _
           kept = length-set values (at + j) z ∙ inv.kept;
         }
 
-    pub row_bad : (width : ℕ) → r ≡ N.Not → RowRead line width at before false values
+    pub row_bad : (width : ℕ) → r ≡ None → RowRead line width at before false values
     unfolding is_row all numbers_of
     row_bad width k =
         let e = number_none (take n (tail_of line from)) r read k in

@@ -2,22 +2,20 @@
 use mathlib.Core.Path.{◌≡◌, refl, sym, ◌∙◌, ap}
 use mathlib.Core.Bool.{Bool, true, false, cond, ◌&&◌}
 use mathlib.Core.List.{List, [], ◌∷◌}
+use Rattle.std.specs.Prelude.{Option, Some, None}
 use Prim.Native.Nat.{ℕ, suc, ◌+◌, ◌-◌, ◌*◌, ◌<◌, ◌≤◌, zero-le, suc-le-suc}
 use native.Mathlib.Nat.{le_refl}
 use native.Mathlib.Omega.{arith}
 use borrow.Author.Tests.{eq-eqb, ne_eqb, le-leb, lt-leb, le-ltb, lt-ltb, leb-true, leb-false}
+use lib.Pointwise.{pointwise}
 use lib.Dec.{eqb, leb, ltb}
 use lib.ListN.{length, get_or, take, drop, drop_of_length-le}
 use lib.Seq.{take_all}
 use Rattle.laws.proofs.laws.Choice.{and_false, and_true}
-use Rattle.scene_file.specs.declared.numbers.Magnitude.{Magnitude}
-use Rattle.scene_file.specs.declared.numbers.Number.{Number}
 use Rattle.scene_tables.specs.Bytes.{all, same_bytes}
 use Rattle.scene_file.specs.Grammar.{is_digit, digits_after, leading_zero, is_whole, is_number, value_of}
 use Rattle.scene_file.specs.Readings.{position_of, magnitude_of, positive_of, negative_of, number_of}
 use Rattle.scene_file.proofs.laws.Tails.{rest, prefix_count}
-use Rattle.scene_file.specs.declared.numbers.Magnitude.TheVariants as M
-use Rattle.scene_file.specs.declared.numbers.Number.TheVariants as N
 
 -- ---- `position_of`
 
@@ -58,39 +56,12 @@ position_none b l i h inv = omega (arith, position_end b l i h)
 
 -- ---- `same`
 
-pub same_end : (a b : List ℕ) (i : ℕ) → length a ≤ i → length b ≤ i → same_bytes (drop i a) (drop i b) ≡ true
+pub same_pointwise : (a b : List ℕ) → pointwise eqb a b ≡ same_bytes a b
 unfolding same_bytes
-same_end a b i h k = rw (drop_of_length-le a h, drop_of_length-le b k)
-
-pub same_next : (a b : List ℕ) (i : ℕ) → i < length a → i < length b → same_bytes (drop i a) (drop i b) ≡ (eqb (get_or a i 0) (get_or b i 0) && same_bytes (drop (i + 1) a) (drop (i + 1) b))
-unfolding same_bytes
-same_next a b i h k = rw (rest a i 0 h, rest b i 0 k)
-
-pub same_length : (a b : List ℕ) → (length a ≡ length b → ⊥) → same_bytes a b ≡ false
-unfolding same_bytes
-same_length [] [] h = absurd (h refl)
-same_length [] (y ∷ b) h = refl
-same_length (x ∷ a) [] h = refl
-same_length (x ∷ a) (y ∷ b) h = rw (same_length a b (λ e. h (ap suc e))) (and_false (eqb x y))
-
--- two lists compared from the front on
-pub same_short : (a b : List ℕ) → (length a ≡ length b → ⊥) → false ≡ same_bytes a b
-same_short a b h = sym (same_length a b h)
-
-pub same_differs : (a b : List ℕ) (i : ℕ) → i < length a → length a ≡ length b → (get_or a i 0 ≡ get_or b i 0 → ⊥) → same_bytes (drop i a) (drop i b) ≡ same_bytes a b
-    → false ≡ same_bytes a b
-same_differs a b i h e n inv =
-    let k : i < length b = omega arith in
-    sym (sym inv ∙ same_next a b i h k ∙ rw (ne_eqb (get_or a i 0) (get_or b i 0) n))
-
-pub same_passed : (a b : List ℕ) (i : ℕ) → i < length a → length a ≡ length b → get_or a i 0 ≡ get_or b i 0 → same_bytes (drop i a) (drop i b) ≡ same_bytes a b
-    → same_bytes (drop (i + 1) a) (drop (i + 1) b) ≡ same_bytes a b
-same_passed a b i h e n inv =
-    let k : i < length b = omega arith in
-    sym (sym inv ∙ same_next a b i h k ∙ rw (eq-eqb (get_or a i 0) (get_or b i 0) n))
-
-pub same_all : (a b : List ℕ) (i : ℕ) → length a ≤ i → length a ≡ length b → same_bytes (drop i a) (drop i b) ≡ same_bytes a b → true ≡ same_bytes a b
-same_all a b i h e inv = let k : length b ≤ i = omega arith in sym (same_end a b i h k) ∙ inv
+same_pointwise [] [] = refl
+same_pointwise [] (y ∷ b) = refl
+same_pointwise (x ∷ a) [] = refl
+same_pointwise (x ∷ a) (y ∷ b) = ap (λ t. eqb x y && t) (same_pointwise a b)
 
 -- ---- digits
 
@@ -117,15 +88,15 @@ digits_grow m [] = le_refl m
 digits_grow m (b ∷ l) = let h : m * 10 + (b - 48) ≤ digits_after (m * 10 + (b - 48)) l = digits_grow (m * 10 + (b - 48)) l in omega arith
 
 -- what `magnitude_of` is where a byte is no digit, where the number is too large, and else
-pub magnitude_no_digit : (l : List ℕ) → all is_digit l ≡ false → magnitude_of l ≡ M.Not
+pub magnitude_no_digit : (l : List ℕ) → all is_digit l ≡ false → magnitude_of l ≡ None
 unfolding magnitude_of
 magnitude_no_digit l h = rw h
 
-pub magnitude_too_large : (l : List ℕ) → 2147483648 < digits_after 0 l → magnitude_of l ≡ M.Not
+pub magnitude_too_large : (l : List ℕ) → 2147483648 < digits_after 0 l → magnitude_of l ≡ None
 unfolding magnitude_of
 magnitude_too_large l h = rw (lt-leb (digits_after 0 l) 2147483648 h, and_false (all is_digit l))
 
-pub magnitude_is : (l : List ℕ) (m : ℕ) → all is_digit l ≡ true → digits_after 0 l ≡ m → m ≤ 2147483648 → magnitude_of l ≡ M.Is m
+pub magnitude_is : (l : List ℕ) (m : ℕ) → all is_digit l ≡ true → digits_after 0 l ≡ m → m ≤ 2147483648 → magnitude_of l ≡ Some m
 unfolding magnitude_of
 magnitude_is l m h e k = rw (h, e, le-leb m 2147483648 k)
 
@@ -139,13 +110,13 @@ digit_high b h = rw (lt-leb b 57 h, and_false (leb 48 b))
 digit_is : (b : ℕ) → 48 ≤ b → b ≤ 57 → is_digit b ≡ true
 digit_is b h k = rw (le-leb 48 b h, le-leb b 57 k)
 
-digit_none : (l : List ℕ) (i : ℕ) → i < length l → is_digit (get_or l i 0) ≡ false → all is_digit (drop i l) ≡ all is_digit l → M.Not ≡ magnitude_of l
+digit_none : (l : List ℕ) (i : ℕ) → i < length l → is_digit (get_or l i 0) ≡ false → all is_digit (drop i l) ≡ all is_digit l → None ≡ magnitude_of l
 digit_none l i h e inv = sym (magnitude_no_digit l (sym inv ∙ all_next is_digit l i 0 h ∙ ap (λ (b : Bool). b && all is_digit (drop (i + 1) l)) e))
 
-pub magnitude_low : (l : List ℕ) (i : ℕ) → i < length l → get_or l i 0 < 48 → all is_digit (drop i l) ≡ all is_digit l → M.Not ≡ magnitude_of l
+pub magnitude_low : (l : List ℕ) (i : ℕ) → i < length l → get_or l i 0 < 48 → all is_digit (drop i l) ≡ all is_digit l → None ≡ magnitude_of l
 magnitude_low l i h e inv = digit_none l i h (digit_low (get_or l i 0) e) inv
 
-pub magnitude_high : (l : List ℕ) (i : ℕ) → i < length l → 57 < get_or l i 0 → all is_digit (drop i l) ≡ all is_digit l → M.Not ≡ magnitude_of l
+pub magnitude_high : (l : List ℕ) (i : ℕ) → i < length l → 57 < get_or l i 0 → all is_digit (drop i l) ≡ all is_digit l → None ≡ magnitude_of l
 magnitude_high l i h e inv = digit_none l i h (digit_high (get_or l i 0) e) inv
 
 pub digits_passed : (l : List ℕ) (i m w : ℕ) → i < length l → w ≡ get_or l i 0 → digits_after m (drop i l) ≡ digits_after 0 l
@@ -157,14 +128,19 @@ pub all_passed : (l : List ℕ) (i : ℕ) → i < length l → 48 ≤ get_or l i
 all_passed l i h a b inv = sym (sym inv ∙ all_next is_digit l i 0 h ∙ rw (digit_is (get_or l i 0) a b))
 
 pub magnitude_large : (l : List ℕ) (i m w : ℕ) → i < length l → w ≡ get_or l i 0 → 2147483648 < m * 10 + (w - 48) → digits_after m (drop i l) ≡ digits_after 0 l
-    → M.Not ≡ magnitude_of l
+    → None ≡ magnitude_of l
 magnitude_large l i m w h e k inv =
     let g : m * 10 + (w - 48) ≤ digits_after (m * 10 + (w - 48)) (drop (i + 1) l) = digits_grow (m * 10 + (w - 48)) (drop (i + 1) l) in
     sym (magnitude_too_large l (omega (arith, digits_passed l i m w h e inv)))
 
 pub magnitude_done : (l : List ℕ) (i m : ℕ) → length l ≤ i → m ≤ 2147483648 → all is_digit (drop i l) ≡ all is_digit l → digits_after m (drop i l) ≡ digits_after 0 l
-    → M.Is m ≡ magnitude_of l
+    → Some m ≡ magnitude_of l
 magnitude_done l i m h k a d = sym (magnitude_is l m (sym a ∙ all_end is_digit l i h) (sym d ∙ digits_end m l i h) k)
+
+-- a magnitude or a number that is not there
+pub none_of : {A : Type 0} (r : Option A) → ((x : A) → r ≡ Some x → ⊥) → r ≡ None
+none_of None h = refl
+none_of (Some x) h = absurd (h x refl)
 
 -- ---- numbers
 
@@ -188,42 +164,42 @@ whole_digits : (l : List ℕ) → (length l ≡ 0 → ⊥) → leading_zero l �
 unfolding is_whole
 whole_digits l h k = rw (lt-ltb 0 (length l) (omega arith), k)
 
-mag_cases : (a b : Bool) (n m : ℕ) → cond (a && b) (M.Is n) M.Not ≡ M.Is m → (a ≡ true) × (b ≡ true) × (n ≡ m)
+mag_cases : (a b : Bool) (n m : ℕ) → cond (a && b) (Some n) None ≡ Some m → (a ≡ true) × (b ≡ true) × (n ≡ m)
 mag_cases true true n m e = (refl, refl, cc)
 mag_cases true false n m e = let z : ◌≡◌ {A = ℕ} 0 1 = cc in absurd (omega arith)
 mag_cases false b n m e = let z : ◌≡◌ {A = ℕ} 0 1 = cc in absurd (omega arith)
 
-mag_not : (a b : Bool) (n : ℕ) → cond (a && b) (M.Is n) M.Not ≡ M.Not → (a && b) ≡ false
+mag_not : (a b : Bool) (n : ℕ) → cond (a && b) (Some n) None ≡ None → (a && b) ≡ false
 mag_not true true n e = let z : ◌≡◌ {A = ℕ} 0 1 = cc in absurd (omega arith)
 mag_not true false n e = refl
 mag_not false b n e = refl
 
 -- what a magnitude says of the digits
-mag_is : (l : List ℕ) (r : Magnitude) (m : ℕ) → r ≡ magnitude_of l → r ≡ M.Is m → (all is_digit l ≡ true) × (leb (digits_after 0 l) 2147483648 ≡ true) × (digits_after 0 l ≡ m)
+mag_is : (l : List ℕ) (r : Option ℕ) (m : ℕ) → r ≡ magnitude_of l → r ≡ Some m → (all is_digit l ≡ true) × (leb (digits_after 0 l) 2147483648 ≡ true) × (digits_after 0 l ≡ m)
 unfolding magnitude_of
 mag_is l r m e k = mag_cases (all is_digit l) (leb (digits_after 0 l) 2147483648) (digits_after 0 l) m (sym e ∙ k)
 
-mag_none : (l : List ℕ) (r : Magnitude) → r ≡ magnitude_of l → r ≡ M.Not → (all is_digit l && leb (digits_after 0 l) 2147483648) ≡ false
+mag_none : (l : List ℕ) (r : Option ℕ) → r ≡ magnitude_of l → r ≡ None → (all is_digit l && leb (digits_after 0 l) 2147483648) ≡ false
 unfolding magnitude_of
 mag_none l r e k = mag_not (all is_digit l) (leb (digits_after 0 l) 2147483648) (digits_after 0 l) (sym e ∙ k)
 
-pub positive_empty : (l : List ℕ) → length l ≡ 0 → N.Not ≡ positive_of l
+pub positive_empty : (l : List ℕ) → length l ≡ 0 → None ≡ positive_of l
 unfolding positive_of
 positive_empty l h = sym (rw (whole_empty l h))
 
-pub positive_zero : (l : List ℕ) (z : Bool) → z ≡ leading_zero l → z ≡ true → N.Not ≡ positive_of l
+pub positive_zero : (l : List ℕ) (z : Bool) → z ≡ leading_zero l → z ≡ true → None ≡ positive_of l
 unfolding positive_of
 positive_zero l z p h = sym (rw (whole_zero l (sym p ∙ h)))
 
-pub positive_is : (l : List ℕ) (z : Bool) (r : Magnitude) (m : ℕ) → (length l ≡ 0 → ⊥) → z ≡ leading_zero l → z ≡ false → r ≡ magnitude_of l → r ≡ M.Is m → m < 2147483648
-    → N.Is (2147483648 + m) ≡ positive_of l
+pub positive_is : (l : List ℕ) (z : Bool) (r : Option ℕ) (m : ℕ) → (length l ≡ 0 → ⊥) → z ≡ leading_zero l → z ≡ false → r ≡ magnitude_of l → r ≡ Some m → m < 2147483648
+    → Some (2147483648 + m) ≡ positive_of l
 unfolding positive_of
 positive_is l z r m h p k e f b =
     let q = mag_is l r m e f in
     sym (rw (whole_digits l h (sym p ∙ k), q.0, q.2, le-leb m 2147483647 (omega arith)))
 
-pub positive_large : (l : List ℕ) (z : Bool) (r : Magnitude) (m : ℕ) → (length l ≡ 0 → ⊥) → z ≡ leading_zero l → z ≡ false → r ≡ magnitude_of l → r ≡ M.Is m → 2147483648 ≤ m
-    → N.Not ≡ positive_of l
+pub positive_large : (l : List ℕ) (z : Bool) (r : Option ℕ) (m : ℕ) → (length l ≡ 0 → ⊥) → z ≡ leading_zero l → z ≡ false → r ≡ magnitude_of l → r ≡ Some m → 2147483648 ≤ m
+    → None ≡ positive_of l
 unfolding positive_of
 positive_large l z r m h p k e f b =
     let q = mag_is l r m e f in
@@ -233,29 +209,29 @@ small_false : (a : Bool) (n : ℕ) → (a && leb n 2147483648) ≡ false → (a 
 small_false true n h = lt-leb n 2147483647 (omega (arith, leb-false n 2147483648 h))
 small_false false n h = refl
 
-pub positive_none : (l : List ℕ) (z : Bool) (r : Magnitude) → (length l ≡ 0 → ⊥) → z ≡ leading_zero l → z ≡ false → r ≡ magnitude_of l → r ≡ M.Not → N.Not ≡ positive_of l
+pub positive_none : (l : List ℕ) (z : Bool) (r : Option ℕ) → (length l ≡ 0 → ⊥) → z ≡ leading_zero l → z ≡ false → r ≡ magnitude_of l → r ≡ None → None ≡ positive_of l
 unfolding positive_of
 positive_none l z r h p k e f = sym (rw (whole_digits l h (sym p ∙ k), small_false (all is_digit l) (digits_after 0 l) (mag_none l r e f)))
 
-pub negative_empty : (l : List ℕ) → length l ≡ 0 → N.Not ≡ negative_of l
+pub negative_empty : (l : List ℕ) → length l ≡ 0 → None ≡ negative_of l
 unfolding negative_of
 negative_empty l h = sym (rw (whole_empty l h))
 
-pub negative_zero : (l : List ℕ) (z : Bool) → z ≡ leading_zero l → z ≡ true → N.Not ≡ negative_of l
+pub negative_zero : (l : List ℕ) (z : Bool) → z ≡ leading_zero l → z ≡ true → None ≡ negative_of l
 unfolding negative_of
 negative_zero l z p h = sym (rw (whole_zero l (sym p ∙ h)))
 
-pub negative_is : (l : List ℕ) (z : Bool) (r : Magnitude) (m : ℕ) → (length l ≡ 0 → ⊥) → z ≡ leading_zero l → z ≡ false → r ≡ magnitude_of l → r ≡ M.Is m → 0 < m → m ≤ 2147483648
-    → N.Is (2147483648 - m) ≡ negative_of l
+pub negative_is : (l : List ℕ) (z : Bool) (r : Option ℕ) (m : ℕ) → (length l ≡ 0 → ⊥) → z ≡ leading_zero l → z ≡ false → r ≡ magnitude_of l → r ≡ Some m → 0 < m → m ≤ 2147483648
+    → Some (2147483648 - m) ≡ negative_of l
 unfolding negative_of
 negative_is l z r m h p k e f b u =
     let q = mag_is l r m e f in
     sym (rw (whole_digits l h (sym p ∙ k), q.0, q.2, le-leb 1 m b, le-leb m 2147483648 u))
 
-pub negative_large : (l : List ℕ) (r : Magnitude) (m : ℕ) → r ≡ magnitude_of l → r ≡ M.Is m → 2147483648 < m → N.Not ≡ negative_of l
+pub negative_large : (l : List ℕ) (r : Option ℕ) (m : ℕ) → r ≡ magnitude_of l → r ≡ Some m → 2147483648 < m → None ≡ negative_of l
 negative_large l r m e f b = let q = mag_is l r m e f in absurd (omega (arith, leb-true (digits_after 0 l) 2147483648 q.1, q.2))
 
-pub negative_naught : (l : List ℕ) (r : Magnitude) (m : ℕ) → r ≡ magnitude_of l → r ≡ M.Is m → m ≤ 0 → N.Not ≡ negative_of l
+pub negative_naught : (l : List ℕ) (r : Option ℕ) (m : ℕ) → r ≡ magnitude_of l → r ≡ Some m → m ≤ 0 → None ≡ negative_of l
 unfolding negative_of
 negative_naught l r m e f b =
     let q = mag_is l r m e f in
@@ -266,17 +242,17 @@ weaker_false true true c h = h
 weaker_false true false c h = refl
 weaker_false false b c h = refl
 
-pub negative_none : (l : List ℕ) (z : Bool) (r : Magnitude) → (length l ≡ 0 → ⊥) → z ≡ leading_zero l → z ≡ false → r ≡ magnitude_of l → r ≡ M.Not → N.Not ≡ negative_of l
+pub negative_none : (l : List ℕ) (z : Bool) (r : Option ℕ) → (length l ≡ 0 → ⊥) → z ≡ leading_zero l → z ≡ false → r ≡ magnitude_of l → r ≡ None → None ≡ negative_of l
 unfolding negative_of
 negative_none l z r h p k e f =
     sym (rw (whole_digits l h (sym p ∙ k), weaker_false (all is_digit l) (leb 1 (digits_after 0 l)) (leb (digits_after 0 l) 2147483648) (mag_none l r e f)))
 
-pub number_empty : (l : List ℕ) → length l ≡ 0 → N.Not ≡ number_of l
+pub number_empty : (l : List ℕ) → length l ≡ 0 → None ≡ number_of l
 unfolding number_of is_number
 number_empty [] h = refl
 number_empty (b ∷ l) h = absurd (omega arith)
 
-cond-cond : (b : Bool) (p q : Bool) (m n : ℕ) → cond (cond b p q) (N.Is (cond b m n)) N.Not ≡ cond b (cond p (N.Is m) N.Not) (cond q (N.Is n) N.Not)
+cond-cond : (b : Bool) (p q : Bool) (m n : ℕ) → cond (cond b p q) (Some (cond b m n)) None ≡ cond b (cond p (Some m) None) (cond q (Some n) None)
 cond-cond true p q m n = refl
 cond-cond false p q m n = refl
 
@@ -287,10 +263,10 @@ number_cons b l =
     (2147483648 - digits_after 0 l)
     (2147483648 + digits_after 0 (b ∷ l))
 
-pub number_negative : (l : List ℕ) (r : Number) → (length l ≡ 0 → ⊥) → get_or l 0 0 ≡ 45 → r ≡ negative_of (take (length l - 1) (drop 1 l)) → r ≡ number_of l
+pub number_negative : (l : List ℕ) (r : Option ℕ) → (length l ≡ 0 → ⊥) → get_or l 0 0 ≡ 45 → r ≡ negative_of (take (length l - 1) (drop 1 l)) → r ≡ number_of l
 number_negative [] r h e p = absurd (h refl)
 number_negative (b ∷ l) r h e p = p ∙ ap negative_of (take_all (length (b ∷ l) - 1) l (omega arith)) ∙ sym (number_cons b l ∙ rw (eq-eqb b 45 e))
 
-pub number_positive : (l : List ℕ) (r : Number) → (length l ≡ 0 → ⊥) → (get_or l 0 0 ≡ 45 → ⊥) → r ≡ positive_of l → r ≡ number_of l
+pub number_positive : (l : List ℕ) (r : Option ℕ) → (length l ≡ 0 → ⊥) → (get_or l 0 0 ≡ 45 → ⊥) → r ≡ positive_of l → r ≡ number_of l
 number_positive [] r h e p = absurd (h refl)
 number_positive (b ∷ l) r h e p = p ∙ sym (number_cons b l ∙ rw (ne_eqb b 45 e))

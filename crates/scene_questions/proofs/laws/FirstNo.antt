@@ -1,16 +1,13 @@
--- Laws of the first question that says no: asked one after the other, as a loop asks them; of questions that follow others; and of all that say
--- yes. Each is over any list none of whose numbers is 0 (`numbered`), so that a question more changes no law.
+-- Laws of the first question that says no: of questions that follow others, and of all that say yes. Each is over any list none of whose numbers is 0 (`numbered`), so that a question more changes no law.
 use mathlib.Core.Path.{◌≡◌, refl, sym, ◌∙◌}
 use mathlib.Core.Bool.{Bool, true, false, cond, not, ◌&&◌}
 use mathlib.Core.List.{List, [], ◌∷◌, ◌++◌}
-use Prim.Native.Nat.{ℕ, zero, suc, ◌+◌, ◌<◌, ◌≤◌}
+use Prim.Native.Nat.{ℕ, zero, suc}
 use borrow.Author.Tests.{eqb-false, not-true}
 use lib.Dec.{eqb}
-use lib.ListN.{length, drop, drop_of_length-le}
+use lib.ListN.{get_or}
 use Rattle.laws.proofs.laws.Choice.{and_left, and_right}
-use Rattle.scene_file.proofs.laws.Tails.{rest}
 use Rattle.scene_questions.specs.Questions.{Question, first_no}
-use Rattle.scene_questions.specs.Places.{question_at}
 
 -- no number is 0, which says that all say yes
 unfoldable pub numbered : List Question → Bool
@@ -26,22 +23,11 @@ module _ (q : Question) (qs : List Question) (some : numbered (q ∷ qs) ≡ tru
   unfolding numbered
   rest_numbered = and_right (not (eqb q.0 0)) (numbered qs) some
 
--- ---- one after the other
-
-module _ (qs : List Question) (i : ℕ) (more : i < length qs) where
-  pub asked_yes : (question_at qs i).1 ≡ true → first_no (drop i qs) ≡ first_no (drop (i + 1) qs)
-  unfolding first_no
-  asked_yes e = rw (rest qs i (0, true) more, e)
-
-  pub asked_no : (question_at qs i).1 ≡ false → first_no (drop i qs) ≡ (question_at qs i).0
-  unfolding first_no
-  asked_no e = rw (rest qs i (0, true) more, e)
-
-pub asked_all : (qs : List Question) (i : ℕ) → length qs ≤ i → first_no (drop i qs) ≡ 0
-unfolding first_no
-asked_all qs i h = rw (drop_of_length-le qs h)
-
 -- ---- all say yes
+
+-- the question at a place of a list, counted from 0; beyond the list one that says yes
+abbrev pub question_at : List Question → ℕ → Question
+question_at questions i = get_or questions i (0, true)
 
 pub yes_at : (qs : List Question) → numbered qs ≡ true → first_no qs ≡ 0 → (i : ℕ) → (question_at qs i).1 ≡ true
 unfolding first_no

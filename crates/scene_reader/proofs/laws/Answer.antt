@@ -1,45 +1,103 @@
 -- Laws of the answer, as the code asks for it: each question of the tables is asked of their places (`asked_places`), the loop over them is any
 -- list's (`FirstNo` of `scene_questions`), and questions 1 and 2 come before. Then the parts of an answer. Assumes nothing.
 use mathlib.Core.Path.{◌≡◌, refl, sym, ◌∙◌, ap}
-use mathlib.Core.Bool.{Bool, true, false, cond, not, ◌&&◌}
+use mathlib.Core.Bool.{Bool, true, false, cond, not, ◌&&◌, true≢false}
 use mathlib.Core.List.{List, [], ◌∷◌}
-use Prim.Native.Nat.{ℕ, ◌+◌, ◌*◌, ◌<◌, ◌≤◌}
+use Prim.Native.Nat.{ℕ, ◌≤◌}
 use native.Mathlib.Omega.{arith}
 use borrow.Author.Tests.{eq-eqb, ne_eqb, eqb-true, not-true, not-false}
 use lib.Dec.{eqb}
-use lib.ListN.{length, get_or, drop, get_or-map}
+use lib.ListN.{length, get_or}
 use Rattle.recordings.specs.Recordings.{Recordings, from_house, from_visitor}
 use Rattle.limits.specs.Limits.{file_bytes}
 use Rattle.scene_file.specs.declared.grammar.Layout.{Layout}
-use Rattle.scene_tables.specs.Tables.{tables, table_at, width, tracks, routes, sounds, placings, head_column}
+use Rattle.scene_tables.specs.Tables.{table_at, width, tracks, routes, sounds, placings, head_column}
 use Rattle.scene_file.specs.Grammar.{tables_of}
 use Rattle.scene_file.specs.Readings.{LayoutRead}
 use Rattle.scene.specs.declared.scene.Scene.{Scene}
+use Rattle.std.specs.Prelude.{Result, Ok, Err}
+use Rattle.std.specs.Result.{IsErrAnd}
 use Rattle.scene_reader.specs.declared.answer.Answer.{Answer}
+use Rattle.scene_reader.specs.declared.answer.Question.{Question as Asked}
+use Rattle.scene_reader.specs.declared.answer.Question.TheVariants.{Size, Spelling, Lines, Ranges, References, Depths, Twice, Sounds, Samples, Output}
 use Rattle.scene_questions.specs.Questions.{Tables, Question, head_cell, size_ok, spelled_ok, depths_fit, routes_fit, placings_fit, sounds_fit, samples_ok, first_no, table_questions}
-use Rattle.scene_questions.specs.Places.{rows_in, count_at, counts_fit, tables_pass, stored, places_most, Low, question_at}
+use Rattle.scene_questions.specs.Places.{rows_in, count_at, counts_fit, tables_pass, stored}
 use Rattle.scene.specs.Scene.{scene_of}
 use Rattle.scene.specs.Placed.{PlacingsOk}
 use Rattle.accepted.proofs.laws.Placed.{placings_ok}
-use Rattle.scene_reader.specs.Answer.{also, questions_of_tables, read_table_questions, read_questions, refusal, answered}
+use Rattle.scene_reader.specs.Answer.{also, read_table_questions, number, number_of, said, read_questions, refusal, answered}
 use Rattle.scene_questions.proofs.laws.FileSize.{size_small}
-use Rattle.scene_questions.proofs.laws.FirstNo.{numbered, asked_yes, asked_no, asked_all, yes_at}
+use Rattle.scene_questions.proofs.laws.FirstNo.{question_at, numbered, yes_at}
 use Rattle.scene.proofs.laws.TablesInPlaces.{rows_placed, counts_are, ranges_are, references_are}
 use Rattle.scene_reader.proofs.laws.Read.{layout_test, read_placed}
 
 -- ---- the questions of the tables
 
--- a table that lies low
-pub low_at : (t : ℕ) → t < length tables → (starts counts : List ℕ) → Low starts counts → get_or starts t 0 + get_or counts t 0 * width (table_at t) ≤ places_most
-low_at t h starts counts low = low t h
-
 pub by_blocks : (starts counts v : List ℕ) (b z : ℕ) (r : Bool) → b ≡ z → r ≡ tables_pass false (count_at counts) b starts counts v
     → r ≡ tables_pass false (count_at counts) z starts counts v
 by_blocks starts counts v b z r e h = rw (← e) h
 
--- their numbers
-abbrev pub table_numbers : List ℕ
-table_numbers = 3 ∷ 4 ∷ 5 ∷ 6 ∷ 7 ∷ 7 ∷ 8 ∷ 8 ∷ 9 ∷ 9 ∷ []
+abbrev is_ok : Result (Unit {0}) Asked → Bool
+is_ok (Ok _) = true
+is_ok (Err e) = false
+
+ok_or_err : (e : Asked) → ◌≡◌ {A = Result (Unit {0}) Asked} (Err e) (Ok tt) → ⊥
+ok_or_err e h = true≢false (sym (ap is_ok h))
+
+-- a refusal that `?` hands on
+pub residual : (r : Result (Unit {0}) Asked) (e : Asked) → IsErrAnd r (λ x. x ≡ e) → number_of r ≡ number e
+residual (Ok u) e h = absurd h
+residual (Err x) e h = ap number h
+
+-- what is no refusal
+pub ok_of : (r : Result (Unit {0}) Asked) → ((e : Asked) → r ≡ Err e → ⊥) → r ≡ Ok tt
+ok_of (Ok tt) h = refl
+ok_of (Err e) h = absurd (h e refl)
+
+pub number_some : (q : Asked) → number q ≡ 0 → ⊥
+number_some Size h = absurd (omega arith)
+number_some Spelling h = absurd (omega arith)
+number_some Lines h = absurd (omega arith)
+number_some Ranges h = absurd (omega arith)
+number_some References h = absurd (omega arith)
+number_some Depths h = absurd (omega arith)
+number_some Twice h = absurd (omega arith)
+number_some Sounds h = absurd (omega arith)
+number_some Samples h = absurd (omega arith)
+number_some Output h = absurd (omega arith)
+
+-- n is the number of the first of these questions that says no
+pub record First (n : ℕ) (qs : List Question) : Type 0 where
+  pub is : n ≡ first_no qs
+
+-- a question that says yes, one that says no, and the last
+module _ {b t : Bool} (question : Asked) (isb : b ≡ t) {r : Result (Unit {0}) Asked} (isr : r ≡ said b question) where
+  by_test : r ≡ said t question
+  by_test = isr ∙ ap (λ (x : Bool). said x question) isb
+
+  pub said_yes : r ≡ Ok tt → {n : ℕ} {qs : List Question} → First n qs → First n ((number question, t) ∷ qs)
+  unfolding first_no
+  said_yes ok {n} {qs} e = record { is = go t (sym by_test ∙ ok) }
+    where
+      go : (x : Bool) → said x question ≡ Ok tt → n ≡ cond x (first_no qs) (number question)
+      go true h = e.is
+      go false h = absurd (ok_or_err question h)
+
+  pub said_no : {e : Asked} → r ≡ Err e → {n : ℕ} {qs : List Question} → n ≡ number e → First n ((number question, t) ∷ qs)
+  unfolding first_no
+  said_no {e} err {n} {qs} q = record { is = go t (sym by_test ∙ err) }
+    where
+      go : (x : Bool) → said x question ≡ Err e → n ≡ cond x (first_no qs) (number question)
+      go true h = absurd (ok_or_err e (sym h))
+      go false h = q ∙ ap number_of (sym h)
+
+  pub said_last : First (number_of r) ((number question, t) ∷ [])
+  unfolding first_no
+  said_last = record { is = ap number_of by_test ∙ go t }
+    where
+      go : (x : Bool) → number_of (said x question) ≡ cond x 0 (number question)
+      go true = refl
+      go false = refl
 
 module _ (starts counts v : List ℕ) (samples : Recordings) (whole visitor_whole : Bool) where
   abbrev pub asked : List Question
@@ -69,36 +127,12 @@ module _ (starts counts v : List ℕ) (samples : Recordings) (whole visitor_whol
   asked_places =
       rw (counts_are starts counts v, ranges_are starts counts v (count_at counts), references_are starts counts v 0, rows_placed starts counts v tracks (omega arith), rows_placed starts counts v routes (omega arith), rows_placed starts counts v placings (omega arith), rows_placed starts counts v sounds (omega arith))
 
-  -- a question, by its place
-  pub passes_at : (k place : ℕ) (r : Bool) → place ≡ k → r ≡ (question_at by_places k).1 → r ≡ (question_at asked place).1
-  passes_at k place r h e = e ∙ rw h (ap (λ (l : List Question). (question_at l k).1) (sym asked_places))
+  pub at_places : {n : ℕ} → First n by_places → n ≡ first_no asked
+  at_places e = e.is ∙ ap first_no (sym asked_places)
 
   asked_numbered : numbered asked ≡ true
   unfolding numbered also read_table_questions table_questions
   asked_numbered = refl
-
-  count : length asked ≡ questions_of_tables
-  unfolding also read_table_questions table_questions
-  count = refl
-
-  -- ---- the loop over them
-
-  number_at : (place : ℕ) → (question_at asked place).0 ≡ get_or table_numbers place 0
-  unfolding also read_table_questions table_questions
-  number_at place = sym (get_or-map (λ (q : Question). q.0) asked place (0, true))
-
-  module _ (place : ℕ) (more : place < questions_of_tables) (b : Bool) (isb : b ≡ (question_at asked place).1) (inv : first_no (drop place asked) ≡ first_no asked) where
-    there : place < length asked
-    there = omega (arith, count)
-
-    pub loop_goes_on : not b ≡ false → first_no (drop (place + 1) asked) ≡ first_no asked
-    loop_goes_on h = sym (asked_yes asked place there (sym isb ∙ not-false b h)) ∙ inv
-
-    pub loop_stops : not b ≡ true → get_or table_numbers place 0 ≡ first_no asked
-    loop_stops h = sym (number_at place) ∙ sym (asked_no asked place there (sym isb ∙ not-true b h)) ∙ inv
-
-  pub loop_ends : (place : ℕ) → questions_of_tables ≤ place → first_no (drop place asked) ≡ first_no asked → 0 ≡ first_no asked
-  loop_ends place h inv = sym (asked_all asked place (omega (arith, count))) ∙ inv
 
 -- ---- questions 1 to 9
 

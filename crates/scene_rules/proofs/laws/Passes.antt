@@ -19,7 +19,7 @@ use Rattle.scene_tables.specs.declared.tables.TableRule.{TableRule}
 use Rattle.scene_tables.specs.Bytes.{every}
 use Rattle.scene_tables.specs.Tables.{Table, tables, table_at, no_table, no_field, width}
 use Rattle.scene_tables.specs.InCode.{all_fields, rule_of}
-use Rattle.scene_questions.specs.Places.{counts_fit, field_passes, line_passes, fields_pass, table_passes, tables_pass, places_most, Low}
+use Rattle.scene_questions.specs.Places.{field_passes, line_passes, fields_pass, table_passes, tables_pass, places_most, Low}
 use Rattle.scene_tables.proofs.laws.Every.{every_none, every_passed, every_failed, every_done}
 
 -- ---- the fields of a line
@@ -59,39 +59,20 @@ module _ (references : Bool) (lines : ℕ → ℕ) (first own : ℕ) (values : L
 
 -- ---- the counts of lines
 
-unfoldable pub count_fits : List ℕ → ℕ → Bool
-count_fits counts t = leb (table_at t).least (get_or counts t 0) && leb (get_or counts t 0) (table_at t).most
+module _ (t n : ℕ) (rule : TableRule) (ruled : rule ≡ rule_of (table_at t)) where
+  least_is : rule.least ≡ (table_at t).least
+  unfolding rule_of
+  least_is = rw ruled
 
-module _ (counts : List ℕ) where
-  pub counts_none : every 0 (count_fits counts) ≡ true
-  counts_none = every_none (count_fits counts)
+  most_is : rule.most ≡ (table_at t).most
+  unfolding rule_of
+  most_is = rw ruled
 
-  module _ (t : ℕ) (rule : TableRule) (ruled : rule ≡ rule_of (table_at t)) where
-    least_is : rule.least ≡ (table_at t).least
-    unfolding rule_of
-    least_is = rw ruled
+  pub count_few : n < rule.least → leb rule.least n ≡ (leb (table_at t).least n && leb n (table_at t).most)
+  count_few h = rw (← least_is, lt-leb rule.least n h)
 
-    most_is : rule.most ≡ (table_at t).most
-    unfolding rule_of
-    most_is = rw ruled
-
-    pub counts_few : t < length tables → get_or counts t 0 < rule.least → false ≡ counts_fit counts
-    unfolding counts_fit count_fits
-    counts_few k h = every_failed (length tables) (count_fits counts) t k (rw (← least_is, lt-leb rule.least (get_or counts t 0) h))
-
-    pub counts_many : t < length tables → rule.most < get_or counts t 0 → false ≡ counts_fit counts
-    unfolding counts_fit count_fits
-    counts_many k h = every_failed (length tables) (count_fits counts) t k (rw (← most_is, lt-leb (get_or counts t 0) rule.most h, and_false))
-
-    pub counts_passed : rule.least ≤ get_or counts t 0 → get_or counts t 0 ≤ rule.most → every t (count_fits counts) ≡ true → every (t + 1) (count_fits counts) ≡ true
-    unfolding count_fits
-    counts_passed h k e =
-        every_passed t (count_fits counts) e
-        (rw (← least_is, ← most_is, le-leb rule.least (get_or counts t 0) h, le-leb (get_or counts t 0) rule.most k))
-
-  pub counts_done : (t : ℕ) → length tables ≤ t → t ≤ length tables → every t (count_fits counts) ≡ true → true ≡ counts_fit counts
-  unfolding counts_fit count_fits
-  counts_done t h k e = every_done (length tables) (count_fits counts) t h k e
+  pub count_enough : rule.least ≤ n → leb n rule.most ≡ (leb (table_at t).least n && leb n (table_at t).most)
+  count_enough h = rw (← least_is, ← most_is, le-leb rule.least n h)
 
 -- ---- the lines of a table
 

@@ -1,12 +1,9 @@
 use mathlib.Core.Path.{◌≡◌}
-use Prim.Native.Nat.{◌≤◌, ◌-◌}
+use Prim.Native.Nat.{◌≤◌}
 use Rattle.laws.specs.Loop.{upto}
 use Rattle.scene_questions.specs.Places.{stored}
 use Rattle.muted_or_held.proofs.laws.Held.{or_more}
 use Rattle.muted_or_held.proofs.held.pauses_and_resumes.Given as goal
 
 abbrev pub invariant-loop-i : goal.invariant-loop-i
-invariant-loop-i l = (l.i ≤ l.lines) × (l.n ≤ l.i) × (l.n ≡ upto (or_more (stored l.starts l.counts l.values) l.track) l.i 0)
-
-abbrev pub decreases-loop-i : goal.decreases-loop-i
-decreases-loop-i l = l.lines - l.i
+invariant-loop-i l = (l.n ≤ l.i) × (l.n ≡ upto (or_more (stored l.starts l.counts l.values) l.track) l.i 0)

@@ -5,7 +5,7 @@ use Rattle.scene.proofs.laws.Placings.{placings_none, placings_next, placings_do
 use Rattle.scene.proofs.scene.placings_of.Goals as goal
 
 pub loop-i-init : goal.loop-i-init
-loop-i-init c = (omega arith, placings_none c.args.starts.now c.args.counts.now c.args.values.now)
+loop-i-init c = placings_none c.args.starts.now c.args.counts.now c.args.values.now
 
 pub overflow_mul-a : goal.overflow_mul-a
 overflow_mul-a c = omega (arith, c.requires.tables_in_range placings (lit< tt))
@@ -25,11 +25,8 @@ offset_bounds-out-track c = omega (arith, track_in c.args.starts.now c.args.coun
 pub bounds-out-track : goal.bounds-out-track
 bounds-out-track c = omega (arith, track_in c.args.starts.now c.args.counts.now c.args.values.now c.loop-i.i (omega (arith, c.loop-i-test.true)) _ _ c.at.ensures c.natural_of-track.ensures c.requires.placings_ok)
 
-pub overflow_add-i : goal.overflow_add-i
-overflow_add-i c = omega (arith, c.requires.tables_in_range placings (lit< tt))
-
 pub loop-i-preserved : goal.loop-i-preserved
-loop-i-preserved c = (omega arith, placings_next c.args.starts.now c.args.counts.now c.args.values.now c.loop-i.i (omega (arith, c.loop-i-test.true)) _ _ c.at.ensures c.natural_of-track.ensures _ _ c.placing_of-placing.ensures c.loop-i.invariant.1)
+loop-i-preserved c = placings_next c.args.starts.now c.args.counts.now c.args.values.now c.loop-i.i (omega (arith, c.loop-i-test.true)) _ _ c.at.ensures c.natural_of-track.ensures _ _ c.placing_of-placing.ensures c.loop-i.invariant
 
 pub returns : goal.returns
-returns c = placings_done c.args.starts.now c.args.counts.now c.args.values.now _ _ (omega (arith, c.loop-i-test.false)) c.loop-i.invariant.0 c.loop-i.invariant.1
+returns c = placings_done c.args.starts.now c.args.counts.now c.args.values.now _ _ (omega (arith, c.loop-i-test.false)) c.loop-i.auto.i-end c.loop-i.invariant

@@ -5,13 +5,13 @@ use Rattle.scene_file.proofs.laws.Numbers.{position_none, position_found, positi
 use Rattle.scene_file.proofs.numbers.find.Goals as goal
 
 pub loop-i-init : goal.loop-i-init
-loop-i-init c = (omega arith, omega arith)
+loop-i-init c = omega arith
 
-pub returns-then-s-i : goal.returns-then-s-i
-returns-then-s-i c = search (position_found, rules)
+pub returns-then-b-byte : goal.returns-then-b-byte
+returns-then-b-byte c = search (position_found, rules)
 
 pub loop-i-preserved : goal.loop-i-preserved
-loop-i-preserved c = (omega arith, search (position_passed, rules))
+loop-i-preserved c = search (position_passed, rules)
 
 pub returns : goal.returns
-returns c = search (position_none, rules)
+returns c = omega (arith, position_none c.args.byte c.args.s.now c.loop-i.i c.loop-i-test.false c.loop-i.invariant, c.loop-i-test.false, c.loop-i.auto)

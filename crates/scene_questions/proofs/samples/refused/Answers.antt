@@ -1,18 +1,17 @@
 -- `refused` meets its contract: the count is that of the samples passed so far. Assumes nothing.
-use Prim.Native.Nat.{◌+◌}
+use Rattle.std.proofs.Common.{sym, ◌+◌}
 use native.Mathlib.Omega.{arith}
-use Rattle.laws.proofs.laws.Count.{count_none, count_turn}
-use Rattle.scene_questions.proofs.laws.Samples.{is_refused, count_small, count_done}
+use Rattle.laws.proofs.laws.Count.{counted_zero, counted_le}
+use Rattle.scene_questions.proofs.laws.Samples.{is_refused, refused_next}
 use Rattle.scene_questions.proofs.samples.refused.Goals as goal
 
-pub loop-i-init : goal.loop-i-init
-loop-i-init c = (omega arith, omega arith, count_none (is_refused c.args.samples.now) c.args.first)
+pub loop-x-init : goal.loop-x-init
+loop-x-init c = sym (counted_zero (is_refused c.args.samples.now))
 
 pub overflow_add-count : goal.overflow_add-count
-overflow_add-count c = omega (arith, count_small c.args.samples.now c.args.first (c.loop-i.i + 1) (c.loop-i.count + c.refusal-count.result) (count_turn (is_refused c.args.samples.now) c.args.first c.loop-i.i c.loop-i.invariant.0 c.loop-i.invariant.2 c.refusal-count.ensures))
+overflow_add-count c =
+    let next = refused_next c.args.samples.now c.loop-x.x-index c.loop-x.count c.from-count.result c.sample_ok.result c.loop-x.invariant c.sample_ok.ensures c.from-count.ensures in
+    omega (arith, next, counted_le (is_refused c.args.samples.now) (c.loop-x.x-index + 1))
 
-pub loop-i-preserved : goal.loop-i-preserved
-loop-i-preserved c = (omega arith, omega arith, count_turn (is_refused c.args.samples.now) c.args.first c.loop-i.i c.loop-i.invariant.0 c.loop-i.invariant.2 c.refusal-count.ensures)
-
-pub returns : goal.returns
-returns c = count_done c.args.samples.now c.args.first c.loop-i.i c.args.to c.loop-i.count (omega arith) (omega arith) c.loop-i.invariant.2
+pub loop-x-preserved : goal.loop-x-preserved
+loop-x-preserved c = refused_next c.args.samples.now c.loop-x.x-index c.loop-x.count c.from-count.result c.sample_ok.result c.loop-x.invariant c.sample_ok.ensures c.from-count.ensures

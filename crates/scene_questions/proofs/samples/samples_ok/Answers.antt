@@ -1,26 +1,18 @@
--- `samples_ok` meets its contract: every sample of the runs so far is in range. Assumes nothing.
-use borrow.Author.Rules.{rules}
+-- `samples_ok` meets its contract: the whole fours, and of the rest none is refused. Assumes nothing.
+use Rattle.std.proofs.Common.{sym, ap, ◌∙◌, ◌-◌, ◌*◌, ◌/◌, length, take, drop}
+use Rattle.std.proofs.lemmas.Slice.{between_to_end}
 use native.Mathlib.Omega.{arith}
-use Rattle.scene_questions.proofs.laws.LineQuestions.{samples_none, samples_done}
-use Rattle.scene_questions.proofs.laws.Samples.{run_passed, run_failed}
+use Rattle.scene_questions.specs.Questions.{samples_ok}
+use Rattle.scene_questions.proofs.laws.Samples.{none_refused, rest_asked, fours_failed}
 use Rattle.scene_questions.proofs.samples.samples_ok.Goals as goal
 
-pub loop-first-init : goal.loop-first-init
-loop-first-init c = (omega arith, search (samples_none, rules))
-
-pub refused-requires : goal.refused-requires
-refused-requires c = (omega arith, omega arith, omega arith)
-
-pub returns-then-refused-ne0 : goal.returns-then-refused-ne0
-returns-then-refused-ne0 c =
-    let first = c.loop-first.first in
-    let to = c.run_end-to.result in
-    run_failed c.args.samples.now first to c.refused.result c.refused.ensures (omega arith) (omega (arith, c.if-refused-ne0.true))
-
-pub loop-first-preserved : goal.loop-first-preserved
-loop-first-preserved c =
-    let to = c.run_end-to.result in
-    (omega arith, run_passed c.args.samples.now c.loop-first.first to c.refused.result c.refused.ensures (omega (arith, c.if-refused-ne0.false)) c.loop-first.invariant.1)
+pub returns-then-not-fours_ok : goal.returns-then-not-fours_ok
+returns-then-not-fours_ok c = fours_failed c.args.samples.now (length c.args.samples.now / 4 * 4) (omega arith) (sym c.if-not-fours_ok.true ∙ c.fours_ok.ensures)
 
 pub returns : goal.returns
-returns c = search (samples_done, rules)
+returns c =
+    let all = c.args.samples.now in
+    let k = length all / 4 * 4 in
+    none_refused (take (length all - k) (drop k all)) c.refused.result c.refused.ensures
+    ∙ ap samples_ok (between_to_end all k (length all) (omega arith))
+    ∙ rest_asked all k (omega arith) (sym c.fours_ok.ensures ∙ c.if-not-fours_ok.false)

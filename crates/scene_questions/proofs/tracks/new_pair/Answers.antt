@@ -1,20 +1,13 @@
--- `new_pair` meets its contract: no line passed so far has the pair. Assumes nothing.
-use borrow.Author.Rules.{rules}
-use native.Mathlib.Omega.{arith}
-use Rattle.scene_questions.proofs.laws.LineQuestions.{pairs_none, pairs_failed, pairs_passed, pairs_done}
+-- `new_pair` meets its contract: `all` asks of every line before. Assumes nothing.
+use Rattle.std.proofs.Common.{rules, tests, not}
+use Rattle.scene_tables.specs.Tables.{table_at, width, routes}
+use Rattle.scene_questions.specs.Questions.{same_pair, new_pair}
+use Rattle.scene_questions.specs.Places.{rows_in}
+use Rattle.scene_questions.proofs.laws.Asked.{every_from_all}
 use Rattle.scene_questions.proofs.tracks.new_pair.Goals as goal
 
-pub loop-k-init : goal.loop-k-init
-loop-k-init c = (omega arith, search (pairs_none, rules))
-
-pub same_pair-requires : goal.same_pair-requires
-same_pair-requires c = record { table_in_range = search rules; line_in_range = search rules; other_line_in_range = omega arith }
-
-pub returns-then-same_pair : goal.returns-then-same_pair
-returns-then-same_pair c = search (pairs_failed, rules)
-
-pub loop-k-preserved : goal.loop-k-preserved
-loop-k-preserved c = (omega arith, search (pairs_passed, rules))
-
 pub returns : goal.returns
-returns c = search (pairs_done, rules)
+unfolding new_pair
+returns c =
+    let rows = rows_in c.args.values.now c.args.start (width (table_at routes)) c.args.lines in
+    every_from_all c.args.i (λ k. not (same_pair rows c.args.i k)) _ _ _ c.all.ensures.ran (λ x b q k. search (rules, tests))

@@ -1,23 +1,14 @@
--- `placings_fit` meets its contract: every line passed so far places a new track. Assumes nothing.
-use borrow.Author.Rules.{rules}
-use native.Mathlib.Omega.{arith}
+-- `placings_fit` meets its contract: `all` asks of every line. Assumes nothing.
+use Rattle.std.proofs.Common.{rules, tests}
+use Rattle.scene_tables.specs.Tables.{table_at, width, placings}
 use Rattle.scene_questions.specs.Questions.{new_placing, placings_fit}
-use Rattle.scene_questions.proofs.laws.LineQuestions.{rows_none, rows_failed, rows_passed, rows_done}
+use Rattle.scene_questions.specs.Places.{rows_in}
+use Rattle.scene_questions.proofs.laws.Asked.{every_from_all}
+use Rattle.scene_questions.proofs.laws.Places.{rows_length}
 use Rattle.scene_questions.proofs.tracks.placings_fit.Goals as goal
-
-pub loop-i-init : goal.loop-i-init
-loop-i-init c = (omega arith, search (rows_none new_placing, rules))
-
-pub new_placing-requires : goal.new_placing-requires
-new_placing-requires c = record { table_in_range = search rules; line_in_range = search rules }
-
-pub returns-then-not-new_placing : goal.returns-then-not-new_placing
-unfolding placings_fit
-returns-then-not-new_placing c = search (rows_failed new_placing, rules)
-
-pub loop-i-preserved : goal.loop-i-preserved
-loop-i-preserved c = (omega arith, search (rows_passed new_placing, rules))
 
 pub returns : goal.returns
 unfolding placings_fit
-returns c = search (rows_done new_placing, rules)
+returns c =
+    let rows = rows_in c.args.values.now c.args.start (width (table_at placings)) c.args.lines in
+    rw (rows_length c.args.values.now c.args.start (width (table_at placings)) c.args.lines) (every_from_all c.args.lines (new_placing rows) _ _ _ c.all.ensures.ran (λ x b q k. search (rules, tests)))

@@ -1,23 +1,14 @@
--- `routes_fit` meets its contract: every route passed so far has a new pair. Assumes nothing.
-use borrow.Author.Rules.{rules}
-use native.Mathlib.Omega.{arith}
+-- `routes_fit` meets its contract: `all` asks of every line. Assumes nothing.
+use Rattle.std.proofs.Common.{rules, tests}
+use Rattle.scene_tables.specs.Tables.{table_at, width, routes}
 use Rattle.scene_questions.specs.Questions.{new_pair, routes_fit}
-use Rattle.scene_questions.proofs.laws.LineQuestions.{rows_none, rows_failed, rows_passed, rows_done}
+use Rattle.scene_questions.specs.Places.{rows_in}
+use Rattle.scene_questions.proofs.laws.Asked.{every_from_all}
+use Rattle.scene_questions.proofs.laws.Places.{rows_length}
 use Rattle.scene_questions.proofs.tracks.routes_fit.Goals as goal
-
-pub loop-i-init : goal.loop-i-init
-loop-i-init c = (omega arith, search (rows_none new_pair, rules))
-
-pub new_pair-requires : goal.new_pair-requires
-new_pair-requires c = record { table_in_range = search rules; line_in_range = search rules }
-
-pub returns-then-not-new_pair : goal.returns-then-not-new_pair
-unfolding routes_fit
-returns-then-not-new_pair c = search (rows_failed new_pair, rules)
-
-pub loop-i-preserved : goal.loop-i-preserved
-loop-i-preserved c = (omega arith, search (rows_passed new_pair, rules))
 
 pub returns : goal.returns
 unfolding routes_fit
-returns c = search (rows_done new_pair, rules)
+returns c =
+    let rows = rows_in c.args.values.now c.args.start (width (table_at routes)) c.args.lines in
+    rw (rows_length c.args.values.now c.args.start (width (table_at routes)) c.args.lines) (every_from_all c.args.lines (new_pair rows) _ _ _ c.all.ensures.ran (λ x b q k. search (rules, tests)))

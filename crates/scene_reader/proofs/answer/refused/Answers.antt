@@ -4,4 +4,4 @@ use Rattle.scene_reader.proofs.answer.refused.Goals as goal
 
 pub returns : goal.returns
 unfolding refusal
-returns c = rw c.no_scene-scene.ensures
+returns c = rw (c.into.ensures, c.no_scene-scene.ensures)

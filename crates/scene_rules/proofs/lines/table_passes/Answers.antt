@@ -6,7 +6,7 @@ use Rattle.scene_rules.proofs.laws.Passes.{line_next, line_fits, lines_none, lin
 use Rattle.scene_rules.proofs.lines.table_passes.Goals as goal
 
 pub loop-i-init : goal.loop-i-init
-loop-i-init c = (omega arith, omega arith, search (lines_none, rules))
+loop-i-init c = (omega arith, search (lines_none, rules))
 
 pub returns-then-not-fields_pass : goal.returns-then-not-fields_pass
 returns-then-not-fields_pass c = search (line_fields_failed, not-true, rules)
@@ -18,7 +18,7 @@ pub overflow_add-a : goal.overflow_add-a
 overflow_add-a c = search (line_fits, rules)
 
 pub loop-i-preserved : goal.loop-i-preserved
-loop-i-preserved c = (omega arith, search (line_next, rules), line_passed _ _ _ _ _ _ _ _ _ _ c.loop-i.invariant.1 _ c.fields_pass.ensures _ c.line_passes.ensures (not-false _ c.if-not-fields_pass.false-raw) (not-false _ c.if-not-line_passes.false-raw) c.loop-i.invariant.2)
+loop-i-preserved c = (search (line_next, rules), line_passed _ _ _ _ _ _ _ _ _ _ c.loop-i.invariant.0 _ c.fields_pass.ensures _ c.line_passes.ensures (not-false _ c.if-not-fields_pass.false-raw) (not-false _ c.if-not-line_passes.false-raw) c.loop-i.invariant.1)
 
 pub returns : goal.returns
 returns c = search (lines_done, rules)

@@ -1,6 +1,5 @@
 use mathlib.Core.Path.{◌≡◌}
 use mathlib.Core.Bool.{true}
-use Prim.Native.Nat.{◌≤◌, ◌-◌}
 use lib.ListN.{length, take}
 use Rattle.scene_tables.specs.Bytes.{every}
 use Rattle.scene_tables.specs.Tables.{tables}
@@ -10,7 +9,4 @@ use Rattle.scene_rules.proofs.laws.Passes.{table_test}
 use Rattle.scene_rules.proofs.lines.tables_pass.Given as goal
 
 abbrev pub invariant-loop-t : goal.invariant-loop-t
-invariant-loop-t l = (l.t ≤ length tables) × (l.first ≡ length (all_fields (take l.t tables))) × (every l.t (table_test l.references (count_at l.counts) l.blocks l.starts l.counts l.values) ≡ true)
-
-abbrev pub decreases-loop-t : goal.decreases-loop-t
-decreases-loop-t l = length tables - l.t
+invariant-loop-t l = (l.first ≡ length (all_fields (take l.t tables))) × (every l.t (table_test l.references (count_at l.counts) l.blocks l.starts l.counts l.values) ≡ true)

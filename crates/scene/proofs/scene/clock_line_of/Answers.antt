@@ -1,7 +1,0 @@
--- `clock_line_of` meets its contract: each field is read from its place. Assumes nothing.
-use Rattle.std.proofs.Common.{rules}
-use Rattle.scene.proofs.laws.LineValues.{clock_is}
-use Rattle.scene.proofs.scene.clock_line_of.Goals as goal
-
-pub returns : goal.returns
-returns c = search (clock_is, rules)

@@ -1,7 +1,0 @@
--- `send_line_of` meets its contract: each field is read from its place. Assumes nothing.
-use Rattle.std.proofs.Common.{rules}
-use Rattle.scene.proofs.laws.LineValues.{send_is}
-use Rattle.scene.proofs.scene.send_line_of.Goals as goal
-
-pub returns : goal.returns
-returns c = search (send_is, rules)

@@ -1,7 +1,0 @@
--- `sound_line_of` meets its contract: each field is read from its place. Assumes nothing.
-use Rattle.std.proofs.Common.{rules}
-use Rattle.scene.proofs.laws.LineValues.{sound_is}
-use Rattle.scene.proofs.scene.sound_line_of.Goals as goal
-
-pub returns : goal.returns
-returns c = search (sound_is, rules)
