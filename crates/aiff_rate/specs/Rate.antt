@@ -1,5 +1,5 @@
 -- A whole number that stands as a number of 80 bits: its sign, 15 bits of its power, and 64 digits, the highest byte first.
-use Rattle.std.specs.Prelude.{cond, ◌&&◌, List, ◌++◌, ℕ, ◌+◌, ◌-◌, ◌*◌, ◌/◌, ◌%◌, ◌^◌, eqb, ltb}
+use Rattle.std.specs.Prelude.{Option, Some, None, cond, ◌&&◌, List, ◌++◌, ℕ, ◌+◌, ◌-◌, ◌*◌, ◌/◌, ◌%◌, ◌^◌, eqb, ltb}
 use Rattle.byte_order.specs.declared.bytes.ByteOrder.TheVariants.{Big}
 use Rattle.byte_order.specs.Bytes.{number_at, bytes_of}
 
@@ -7,18 +7,18 @@ use Rattle.byte_order.specs.Bytes.{number_at, bytes_of}
 abbrev pub unit : ℕ
 unit = 16446
 
--- digits * 2 ^ power / 2 ^ one, where that is a whole number of 32 bits, and else 0.
-unfoldable pub whole_of : ℕ → ℕ → ℕ → ℕ
+-- digits * 2 ^ power / 2 ^ one, where that is a whole number of 32 bits.
+unfoldable pub whole_of : ℕ → ℕ → ℕ → Option ℕ
 whole_of one power digits =
     let value = digits * 2 ^ power in
-    cond (eqb (value % 2 ^ one) 0 && ltb (value / 2 ^ one) 4294967296) (value / 2 ^ one) 0
+    cond (eqb (value % 2 ^ one) 0 && ltb (value / 2 ^ one) 4294967296) (Some (value / 2 ^ one)) None
 
 -- The number that begins at a place: every digit counts, whether or not the highest is 1. A power of 32767 has no number (an infinity, a NaN), and
 -- from 32768 on the sign is set.
-unfoldable pub whole_at : List ℕ → ℕ → ℕ
+unfoldable pub whole_at : List ℕ → ℕ → Option ℕ
 whole_at bytes at =
     let power = number_at Big bytes at 2 in
-    cond (ltb power 32767) (whole_of unit power (number_at Big bytes (at + 2) 8)) 0
+    cond (ltb power 32767) (whole_of unit power (number_at Big bytes (at + 2) 8)) None
 
 -- ---- a rate that is written
 

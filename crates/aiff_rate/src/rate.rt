@@ -1,6 +1,6 @@
 // A number of 80 bits: its sign, 15 bits of its power, and 64 digits. A number is normalised where the
 // highest digit is 1; all 64 count in any number.
-ghost use Rattle.std.specs.Prelude.{◌≡◌, ◌+◌, ◌-◌, ◌^◌, ◌≤◌, length};
+ghost use Rattle.std.specs.Prelude.{◌≡◌, ◌+◌, ◌-◌, ◌^◌, ◌≤◌, length, option_and_then};
 ghost use Rattle.laws.specs.Pieces.{put_at};
 ghost use Rattle.byte_order.specs.declared.bytes.ByteOrder.TheVariants.{Big};
 ghost use Rattle.byte_order.specs.Bytes.{number_at};
@@ -17,56 +17,53 @@ const HALF: u64 = 0x8000_0000;
 
 const WORD: u64 = 0x1_0000_0000;
 
-// Digits of a lower power, halved until they have the power UNIT; 0 where a digit is cut off.
-fn halved(power: u32, digits: u64) -> u64
+// Digits of a lower power, halved until they have the power UNIT; none where a digit is cut off.
+fn halved(power: u32, digits: u64) -> Option<u64>
     requires { power ≤ unit }
-    ensures { whole_of unit unit result ≡ whole_of unit power digits }
+    ensures { option_and_then (whole_of unit unit) result ≡ whole_of unit power digits }
 {
     let mut at = power;
     let mut rest = digits;
     while at < UNIT {
         if rest % 2 != 0 {
-            return 0;
+            return None;
         }
         rest = rest / 2;
         at += 1;
     }
-    rest
+    Some(rest)
 }
 
-// Digits of a higher power, doubled until they have the power UNIT; 0 where they pass 32 bits.
-fn doubled(power: u32, digits: u64) -> u64
+// Digits of a higher power, doubled until they have the power UNIT; none where they pass 32 bits.
+fn doubled(power: u32, digits: u64) -> Option<u64>
     requires { unit ≤ power }
-    ensures { whole_of unit unit result ≡ whole_of unit power digits }
+    ensures { option_and_then (whole_of unit unit) result ≡ whole_of unit power digits }
 {
     let mut at = power;
     let mut rest = digits;
     while UNIT < at {
         if HALF <= rest {
-            return 0;
+            return None;
         }
         rest = rest * 2;
         at -= 1;
     }
-    rest
+    Some(rest)
 }
 
-fn small(digits: u64) -> u32
+fn small(digits: u64) -> Option<u32>
     ensures { result ≡ whole_of unit unit digits }
 {
-    if digits < WORD {
-        return digits as u32;
-    }
-    0
+    u32::try_from(digits).ok()
 }
 
-fn whole_of(power: u32, digits: u64) -> u32
+fn whole_of(power: u32, digits: u64) -> Option<u32>
     ensures { result ≡ whole_of unit power digits }
 {
     if power < UNIT {
-        return small(halved(power, digits));
+        return small(halved(power, digits)?);
     }
-    small(doubled(power, digits))
+    small(doubled(power, digits)?)
 }
 
 fn digits_at(bytes: &[u8], at: usize) -> u64
@@ -78,14 +75,15 @@ fn digits_at(bytes: &[u8], at: usize) -> u64
     high * WORD + low
 }
 
-// The whole number that begins at a place, or 0 where the number there is none, or has more than 32 bits.
-pub fn whole_at(bytes: &[u8], at: usize) -> u32
+// The whole number that begins at a place: none where the number there is no whole one, or has more than
+// 32 bits.
+pub fn whole_at(bytes: &[u8], at: usize) -> Option<u32>
     requires { at + 10 ≤ length bytes.now }
     ensures { result ≡ whole_at bytes.now at }
 {
     let power = number2_at(bytes, at, ByteOrder::Big);
     if ENDLESS <= power {
-        return 0;
+        return None;
     }
     whole_of(power, digits_at(bytes, at + 2))
 }

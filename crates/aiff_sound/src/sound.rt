@@ -1,12 +1,12 @@
-// What an AIFF file holds, or the number of its refusal.
+// What an AIFF file holds, or why it is refused.
 ghost use Rattle.std.specs.Prelude.{◌≡◌, ◌+◌, ◌≤◌, length};
-ghost use Rattle.aiff_sound.specs.Sound.{sound_of, sound_at, has_chunks, sound_in};
+ghost use Rattle.aiff_sound.specs.Sound.{sound_of, sound_at, sound_in};
 
 use aiff_rate::whole_at;
 use byte_order::{ByteOrder, number2_at, number4_at};
 use iff_chunks::{is_form, walk};
 use pcm::Encoding;
-use wave_sound::{Found, Sound, channels_ok, rate_ok};
+use wave_sound::{Refusal, Sound, channels_ok, rate_ok};
 
 // Identifiers, the first letter the highest byte.
 pub const FORM: u32 = 0x464f_524d;
@@ -31,23 +31,23 @@ fn sound_of(
     frames: u32,
     bits: u32,
     rate: u32,
-) -> Found
+) -> Result<Sound, Refusal>
     ensures { result ≡ sound_of start size offset channels frames bits rate }
 {
     if !channels_ok(channels) {
-        return Found::Refused(15);
+        return Err(Refusal::OtherKind);
     }
     if bits != SAMPLE_BITS {
-        return Found::Refused(15);
+        return Err(Refusal::OtherKind);
     }
     let needed = 8 + (offset as usize) + (frames as usize) * (channels as usize) * 2;
     if (size as usize) < needed {
-        return Found::Refused(14);
+        return Err(Refusal::Broken);
     }
     if !rate_ok(rate) {
-        return Found::Refused(18);
+        return Err(Refusal::FileRate);
     }
-    Found::Holds(Sound {
+    Ok(Sound {
         rate,
         channels,
         encoding: Encoding::Pcm16,
@@ -57,7 +57,7 @@ fn sound_of(
 }
 
 // A file whose chunks are whole, by the places of its common chunk and its sound chunk.
-fn sound_at(file: &[u8], common: usize, body: usize) -> Found
+fn sound_at(file: &[u8], common: usize, body: usize) -> Result<Sound, Refusal>
     requires common_in_file { common + 26 ≤ length file.now }
     requires body_in_file { body + 16 ≤ length file.now }
     ensures { result ≡ sound_at file.now common body }
@@ -65,46 +65,31 @@ fn sound_at(file: &[u8], common: usize, body: usize) -> Found
     let channels = number2_at(file, common + 8, ByteOrder::Big);
     let frames = number4_at(file, common + 10, ByteOrder::Big);
     let bits = number2_at(file, common + 14, ByteOrder::Big);
-    let rate = whole_at(file, common + 16);
+    // No rate is out of range, as 0 is.
+    let rate = whole_at(file, common + 16).unwrap_or(0);
     let size = number4_at(file, body + 4, ByteOrder::Big);
     let offset = number4_at(file, body + 8, ByteOrder::Big);
     let start = body + 16 + (offset as usize);
     sound_of(start, size, offset, channels, frames, bits, rate)
 }
 
-// Whether the chunks that a file must have are there.
-fn has_chunks(file: &[u8], common: usize, body: usize) -> bool
-    requires common_in_file { (common ≡ 0 → ⊥) → common + 8 ≤ length file.now }
-    requires body_in_file { (body ≡ 0 → ⊥) → body + 8 ≤ length file.now }
-    ensures { result ≡ has_chunks file.now common body }
-{
-    if common == 0 {
-        return false;
-    }
-    if number4_at(file, common + 4, ByteOrder::Big) != COMMON_SIZE {
-        return false;
-    }
-    if body == 0 {
-        return false;
-    }
-    8 <= number4_at(file, body + 4, ByteOrder::Big)
-}
-
-pub fn sound_in(file: &[u8]) -> Found
+pub fn sound_in(file: &[u8]) -> Result<Sound, Refusal>
     ensures { result ≡ sound_in file.now }
 {
     if !is_form(file, FORM, AIFF) {
-        return Found::Refused(16);
+        return Err(Refusal::NoAiff);
     }
     let chunks = walk(file, ByteOrder::Big, COMMON, SOUND);
-    let common = chunks.first;
-    let body = chunks.second;
-    let whole = chunks.whole;
-    if !has_chunks(file, common, body) {
-        return Found::Refused(16);
+    let common = chunks.first.ok_or(Refusal::NoAiff)?;
+    let body = chunks.second.ok_or(Refusal::NoAiff)?;
+    if number4_at(file, common + 4, ByteOrder::Big) != COMMON_SIZE {
+        return Err(Refusal::NoAiff);
     }
-    if !whole {
-        return Found::Refused(14);
+    if number4_at(file, body + 4, ByteOrder::Big) < 8 {
+        return Err(Refusal::NoAiff);
+    }
+    if !chunks.whole {
+        return Err(Refusal::Broken);
     }
     sound_at(file, common, body)
 }

@@ -1,10 +1,10 @@
 -- What the AIFF writer answers, and the file that it leaves. A refusal leaves the file as it was.
-use Rattle.std.specs.Prelude.{List, ◌++◌, ℕ, ◌+◌, ◌/◌, length, Float}
+use Rattle.std.specs.Prelude.{Option, List, ◌++◌, ℕ, ◌+◌, ◌/◌, length, Float}
 use Rattle.byte_order.specs.declared.bytes.ByteOrder.TheVariants.{Big}
 use Rattle.byte_order.specs.Bytes.{bytes_of}
 use Rattle.pcm.specs.declared.sample.Encoding.TheVariants.{Pcm16}
 use Rattle.sound_data.specs.Data.{data_of}
-use Rattle.wave_writer.specs.Write.{Writing, data_length, asked, answered, length_with}
+use Rattle.wave_writer.specs.Write.{Writing, data_length, asked, answered, bytes_with, length_with}
 use Rattle.aiff_rate.specs.Rate.{rate_bytes}
 use Rattle.aiff_sound.specs.Sound.{form_chunk, aiff, common_chunk, sound_chunk}
 
@@ -40,6 +40,9 @@ file_of rate channels samples = head_of rate channels (length samples / 2) (data
 unfoldable pub write_of : ℕ → ℕ → List Float → List ℕ → Writing
 write_of rate channels samples file = answered (asked head_length rate channels Pcm16 samples (length file)) (file_of rate channels samples) file
 
--- the length that the file of so many samples needs, 0 where there is none
-unfoldable pub length_for : ℕ → ℕ → ℕ
+-- the length that the file of so many samples needs, where there is such a file; as a number, 0 where there is none
+abbrev pub bytes_for : ℕ → ℕ → Option ℕ
+bytes_for samples channels = bytes_with head_length samples channels Pcm16
+
+abbrev pub length_for : ℕ → ℕ → ℕ
 length_for samples channels = length_with head_length samples channels Pcm16

@@ -1,13 +1,15 @@
-// The file of given samples, or the number of its refusal.
+// The file of given samples, or why it is refused.
 ghost use Rattle.std.specs.Prelude.{◌≡◌, length};
 ghost use Rattle.pcm.specs.declared.sample.Encoding.TheVariants.{Pcm16};
+ghost use Rattle.wave_sound.specs.Refusal.{number_of};
 ghost use Rattle.wave_writer.specs.Write.{asked, writing};
-ghost use Rattle.aiff_writer.specs.Write.{head_length, file_of, write_of, length_for};
+ghost use Rattle.aiff_writer.specs.Write.{head_length, file_of, write_of, bytes_for};
 
 use crate::head::put_head;
 use byte_order::ByteOrder;
 use pcm::Encoding;
 use sound_data::write_samples;
+use wave_sound::Refusal;
 use wave_writer::{asked, data_length, file_length};
 
 // The bytes in front of the data.
@@ -30,21 +32,19 @@ fn write_file(rate: u32, channels: u32, samples: &[f32], file: &mut [u8])
     );
 }
 
-// Answers 0 and writes the whole file, or answers the number of the refusal and writes nothing.
-pub fn write(rate: u32, channels: u32, samples: &[f32], file: &mut [u8]) -> u32
-    ensures { writing result file.new ≡ write_of rate channels samples.now file.old }
+// Writes the whole file, or writes nothing.
+pub fn write(rate: u32, channels: u32, samples: &[f32], file: &mut [u8]) -> Result<(), Refusal>
+    ensures { writing (number_of result) file.new
+        ≡ write_of rate channels samples.now file.old }
 {
-    let number = asked(HEAD, rate, channels, Encoding::Pcm16, samples, file.len());
-    if number != 0 {
-        return number;
-    }
+    asked(HEAD, rate, channels, Encoding::Pcm16, samples, file.len())?;
     write_file(rate, channels, samples, file);
-    0
+    Ok(())
 }
 
-// The bytes of the file of so many samples, or 0 where there is no such file.
-pub fn length(samples: usize, channels: u32) -> usize
-    ensures { result ≡ length_for samples channels }
+// The bytes of the file of so many samples, where there is such a file.
+pub fn length(samples: usize, channels: u32) -> Option<usize>
+    ensures { result ≡ bytes_for samples channels }
 {
     file_length(HEAD, samples, channels, Encoding::Pcm16)
 }

@@ -4,6 +4,8 @@ ghost use Rattle.wave_reader.specs.Read.{held, info_of, reading, read_of};
 ghost use Rattle.wave_writer.specs.Write.{length_for, writing, write_of};
 ghost use Rattle.wave.specs.ReadBack.{ReadsBack};
 
+use wave::number_of;
+
 // What a file holds: its rate, channels (1 or 2), bits of a sample (16 or 32) and frames.
 #[unsafe(no_mangle)]
 pub extern "C" fn room_desk_wave_info(
@@ -16,7 +18,7 @@ pub extern "C" fn room_desk_wave_info(
     ensures { held result rate.new channels.new bits.new frames.new
         ≡ info_of file.now rate.old channels.old bits.old frames.old }
 {
-    wave::info(file, rate, channels, bits, frames)
+    number_of(wave::info(file, rate, channels, bits, frames))
 }
 
 // A file's samples, two for each frame, and its rate.
@@ -24,7 +26,7 @@ pub extern "C" fn room_desk_wave_info(
 pub extern "C" fn room_desk_wave_read(file: &[u8], samples: &mut [f32], rate: &mut u32) -> u32
     ensures { reading result samples.new rate.new ≡ read_of file.now samples.old rate.old }
 {
-    wave::read(file, samples, rate)
+    number_of(wave::read(file, samples, rate))
 }
 
 // The file of given samples. It reads back to them, where 16 bits and one channel can hold them.
@@ -41,7 +43,7 @@ pub extern "C" fn room_desk_wave_write(
         → (there : List Float) (old : ℕ) → length there ≡ length samples.now
         → read_of file.new there old ≡ reading 0 samples.now rate }
 {
-    wave::write(rate, channels, bits, samples, file)
+    number_of(wave::write(rate, channels, bits, samples, file))
 }
 
 // The bytes of the file of so many samples, or 0 where there is no such file.
@@ -49,5 +51,5 @@ pub extern "C" fn room_desk_wave_write(
 pub extern "C" fn room_desk_wave_length(samples: usize, channels: u32, bits: u32) -> usize
     ensures { result ≡ length_for samples channels bits }
 {
-    wave::length(samples, channels, bits)
+    wave::length(samples, channels, bits).unwrap_or(0)
 }

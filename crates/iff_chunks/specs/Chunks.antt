@@ -1,6 +1,8 @@
 -- A file of chunks. A chunk is an identifier of four bytes, a size of four, so many bytes, and behind an odd size a pad byte, if the file has
 -- one. The file begins with the header of the chunk that holds them all, whose size nobody asks about, and the identifier of its form.
-use Rattle.std.specs.Prelude.{Bool, true, false, cond, ◌&&◌, List, ℕ, zero, suc, ◌+◌, ◌*◌, ◌%◌, eqb, leb, ltb, length}
+use Rattle.std.specs.Prelude.{Option, None, Bool, true, false, cond, ◌&&◌, List, ℕ, zero, suc, ◌+◌, ◌*◌, ◌%◌, eqb, leb, ltb, length}
+use Rattle.std.specs.Bool.{then_some}
+use Rattle.std.specs.Option.{option_or}
 use Prim.Native.Char.{code}
 use Prim.Native.String.{String, [] as empty, ◌∷◌ as ◌then◌}
 use Rattle.byte_order.specs.declared.bytes.ByteOrder.{ByteOrder}
@@ -26,15 +28,15 @@ size_at order file at = number_at order file (at + 4) 4
 unfoldable pub is_form : List ℕ → ℕ → ℕ → Bool
 is_form file outer form = leb 12 (length file) && (eqb (identifier_at file 0) outer && eqb (identifier_at file 8) form)
 
--- The first chunk counts: a place that is noted stays. 0 is none.
-unfoldable pub noted : ℕ → ℕ → ℕ → ℕ → ℕ
-noted place identifier wanted at = cond (eqb place 0) (cond (eqb identifier wanted) at 0) place
+-- The first chunk counts: a place that is noted stays.
+unfoldable pub noted : Option ℕ → ℕ → ℕ → ℕ → Option ℕ
+noted place identifier wanted at = option_or place (then_some (eqb identifier wanted) at)
 
-abbrev pub found : ℕ → ℕ → Bool → Chunks
+abbrev pub found : Option ℕ → Option ℕ → Bool → Chunks
 found first second whole = record { first = first; second = second; whole = whole }
 
 -- The chunks from a place on. They are not whole where a rest of under 8 bytes is left, or where one runs past the file's end, which is the last.
-unfoldable pub walk_from : ℕ → ByteOrder → ℕ → ℕ → List ℕ → ℕ → ℕ → ℕ → Chunks
+unfoldable pub walk_from : ℕ → ByteOrder → ℕ → ℕ → List ℕ → ℕ → Option ℕ → Option ℕ → Chunks
 walk_from zero order a b file at first second = found first second true
 walk_from (suc n) order a b file at first second =
     let size = size_at order file at in
@@ -47,4 +49,4 @@ walk_from (suc n) order a b file at first second =
 
 -- All chunks of a file: a chunk has 8 bytes at least, so there are fewer than the file has bytes.
 unfoldable pub walk_of : ByteOrder → ℕ → ℕ → List ℕ → Chunks
-walk_of order a b file = walk_from (length file) order a b file 12 0 0
+walk_of order a b file = walk_from (length file) order a b file 12 None None

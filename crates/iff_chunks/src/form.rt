@@ -11,12 +11,11 @@ const HEAD: usize = 12;
 // An identifier and a size.
 const HEADER: usize = 8;
 
-// Where the first chunk of each of two identifiers begins, or 0 where there is none; and whether the
-// chunks fill the file to its end.
-#[derive(Clone, Copy)]
+// Where the first chunk of each of two identifiers begins, and whether the chunks fill the file to its end.
+#[derive(Clone, Copy, PartialEq, Eq, Debug)]
 pub struct Chunks {
-    pub first: usize,
-    pub second: usize,
+    pub first: Option<usize>,
+    pub second: Option<usize>,
     pub whole: bool,
 }
 
@@ -33,20 +32,18 @@ pub fn is_form(file: &[u8], outer: u32, form: u32) -> bool
     number4_at(file, 8, ByteOrder::Big) == form
 }
 
-fn noted(place: usize, identifier: u32, wanted: u32, at: usize) -> usize
+#[tactic(auto, unfolding(crate::specs::Chunks::noted))]
+fn noted(place: Option<usize>, identifier: u32, wanted: u32, at: usize) -> Option<usize>
     ensures { result ≡ noted place identifier wanted at }
 {
-    if place != 0 {
-        return place;
-    }
-    if identifier == wanted { at } else { 0 }
+    place.or((identifier == wanted).then_some(at))
 }
 
 pub fn walk(file: &[u8], order: ByteOrder, a: u32, b: u32) -> Chunks
     ensures { result ≡ walk_of order a b file.now }
 {
-    let mut first = 0;
-    let mut second = 0;
+    let mut first = None;
+    let mut second = None;
     let mut at = HEAD;
     while at < file.len() {
         if file.len() - at < HEADER {

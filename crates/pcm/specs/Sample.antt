@@ -55,6 +55,11 @@ unfoldable pub width : Encoding → ℕ
 width Pcm16 = 2
 width Float32 = 4
 
+-- Its bits.
+unfoldable pub bits_of : Encoding → ℕ
+bits_of Pcm16 = 16
+bits_of Float32 = 32
+
 -- The sample that a pattern stands for, and the pattern of a sample.
 unfoldable pub sample_of : Encoding → ℕ → Float
 sample_of Pcm16 bits = sample_of16 (signed16 bits)

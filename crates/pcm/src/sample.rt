@@ -3,7 +3,7 @@ ghost use Rattle.std.specs.Prelude.{◌≡◌, ◌+◌, ◌<◌, ◌≤◌, nat_
 ghost use Rattle.laws.specs.Pieces.{put_at};
 ghost use Rattle.pcm.specs.declared.sample.Encoding.TheVariants.{Pcm16, Float32};
 ghost use Rattle.byte_order.specs.Bytes.{bytes_of};
-ghost use Rattle.pcm.specs.Sample.{InRange, raised16, nearest16, whole16, width, sample_of, pattern_of, sample_at};
+ghost use Rattle.pcm.specs.Sample.{InRange, raised16, nearest16, whole16, width, bits_of, sample_of, pattern_of, sample_at};
 
 use byte_order::{ByteOrder, number2_at, number4_at, put_number2, put_number4};
 
@@ -22,10 +22,34 @@ const OFFSET: f32 = 12582912.0;
 
 const LEAST: u32 = 0x4b3f_8000;
 
-#[derive(Clone, Copy)]
+#[derive(Clone, Copy, PartialEq, Eq, Debug)]
 pub enum Encoding {
     Pcm16,
     Float32,
+}
+
+impl Encoding {
+    // The bytes of a sample.
+    #[tactic(auto, unfolding(crate::specs::Sample::width))]
+    pub fn width(self) -> usize
+        ensures { (result ≤ 4) × (result ≡ width self) }
+    {
+        match self {
+            Encoding::Pcm16 => 2,
+            Encoding::Float32 => 4,
+        }
+    }
+
+    // The bits of a sample.
+    #[tactic(auto, unfolding(crate::specs::Sample::bits_of))]
+    pub fn bits(self) -> u32
+        ensures { result ≡ bits_of self }
+    {
+        match self {
+            Encoding::Pcm16 => 16,
+            Encoding::Float32 => 32,
+        }
+    }
 }
 
 // v / 32768, from v's bits. Raised by 32768, v is not negative.

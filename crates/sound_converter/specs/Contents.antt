@@ -1,9 +1,10 @@
 -- What a file holds, by its rate, channels and samples, and what converting keeps.
-use Rattle.std.specs.Prelude.{◌≡◌, List, ℕ, ◌+◌, length, Float}
+use Rattle.std.specs.Prelude.{◌≡◌, Result, Ok, Err, List, ℕ, ◌+◌, length, Float}
 use Rattle.byte_order.specs.declared.bytes.ByteOrder.{ByteOrder}
 use Rattle.byte_order.specs.declared.bytes.ByteOrder.TheVariants.{Little, Big}
-use Rattle.wave_sound.specs.declared.sound.Found.{Found}
-use Rattle.wave_sound.specs.declared.sound.Found.TheVariants.{Holds, Refused}
+use Rattle.wave_sound.specs.declared.sound.Sound.{Sound}
+use Rattle.wave_sound.specs.declared.refusal.Refusal.{Refusal}
+use Rattle.wave_sound.specs.Refusal.{refusal_number}
 use Rattle.wave_sound.specs.Sound.{sound_in}
 use Rattle.wave_reader.specs.Read.{samples_of}
 use Rattle.wave_writer.specs.Write.{head_length, writing}
@@ -15,9 +16,9 @@ pub data Contents : Type 0 where
   contents : ℕ → ℕ → List Float → Contents
   none : ℕ → Contents
 
-unfoldable pub contents_of : ByteOrder → Found → List ℕ → Contents
-contents_of order (Holds sound) file = contents sound.rate sound.channels (samples_of order file sound)
-contents_of order (Refused number) file = none number
+unfoldable pub contents_of : ByteOrder → Result Sound Refusal → List ℕ → Contents
+contents_of order (Ok sound) file = contents sound.rate sound.channels (samples_of order file sound)
+contents_of order (Err refusal) file = none (refusal_number refusal)
 
 unfoldable pub wave_contents : List ℕ → Contents
 wave_contents wave = contents_of Little (sound_in wave) wave

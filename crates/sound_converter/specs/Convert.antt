@@ -1,6 +1,6 @@
 -- What the converters answer, and the file that they leave. A refusal leaves the file as it was. The converted file is the one that is written of the
 -- samples that are read.
-use Rattle.std.specs.Prelude.{Bool, true, cond, ◌&&◌, List, ℕ, ◌+◌, ◌*◌, ◌<◌, eqb, leb, length}
+use Rattle.std.specs.Prelude.{Result, Ok, Err, Bool, true, cond, ◌&&◌, List, ℕ, ◌+◌, ◌*◌, ◌<◌, eqb, leb, length}
 use Rattle.scene_tables.specs.Bytes.{every}
 use Rattle.byte_order.specs.declared.bytes.ByteOrder.{ByteOrder}
 use Rattle.byte_order.specs.declared.bytes.ByteOrder.TheVariants.{Little, Big}
@@ -10,8 +10,8 @@ use Rattle.pcm.specs.declared.sample.Encoding.TheVariants.{Pcm16, Float32}
 use Rattle.pcm.specs.Sample.{Whole16, whole16, width, pattern_of}
 use Rattle.sound_data.specs.Data.{value_at}
 use Rattle.wave_sound.specs.declared.sound.Sound.{Sound}
-use Rattle.wave_sound.specs.declared.sound.Found.{Found}
-use Rattle.wave_sound.specs.declared.sound.Found.TheVariants.{Holds, Refused}
+use Rattle.wave_sound.specs.declared.refusal.Refusal.{Refusal}
+use Rattle.wave_sound.specs.Refusal.{refusal_number}
 use Rattle.wave_sound.specs.Sound.{rate_ok, sound_in}
 use Rattle.wave_reader.specs.Read.{samples_of}
 use Rattle.wave_writer.specs.Write.{Writing, writing, head_length, file_most, file_of, answered}
@@ -54,9 +54,9 @@ asked_of_wave sound wave room =
     18)
     17
 
-unfoldable pub to_aiff : Found → List ℕ → List ℕ → Writing
-to_aiff (Holds sound) wave aiff = answered (asked_of_wave sound wave (length aiff)) (aiff_file_of sound.rate sound.channels (samples_of Little wave sound)) aiff
-to_aiff (Refused number) wave aiff = writing number aiff
+unfoldable pub to_aiff : Result Sound Refusal → List ℕ → List ℕ → Writing
+to_aiff (Ok sound) wave aiff = answered (asked_of_wave sound wave (length aiff)) (aiff_file_of sound.rate sound.channels (samples_of Little wave sound)) aiff
+to_aiff (Err refusal) wave aiff = writing (refusal_number refusal) aiff
 
 unfoldable pub wave_to_aiff : List ℕ → List ℕ → Writing
 wave_to_aiff wave aiff = to_aiff (sound_in wave) wave aiff
@@ -66,9 +66,9 @@ wave_to_aiff wave aiff = to_aiff (sound_in wave) wave aiff
 unfoldable pub asked_of_aiff : Sound → ℕ → ℕ
 asked_of_aiff sound room = cond (room_ok head_length (values_of sound * 2) room) 0 10
 
-unfoldable pub to_wave : Found → List ℕ → List ℕ → Writing
-to_wave (Holds sound) aiff wave = answered (asked_of_aiff sound (length wave)) (file_of sound.rate sound.channels Pcm16 (samples_of Big aiff sound)) wave
-to_wave (Refused number) aiff wave = writing number wave
+unfoldable pub to_wave : Result Sound Refusal → List ℕ → List ℕ → Writing
+to_wave (Ok sound) aiff wave = answered (asked_of_aiff sound (length wave)) (file_of sound.rate sound.channels Pcm16 (samples_of Big aiff sound)) wave
+to_wave (Err refusal) aiff wave = writing (refusal_number refusal) wave
 
 unfoldable pub aiff_to_wave : List ℕ → List ℕ → Writing
 aiff_to_wave aiff wave = to_wave (aiff_in aiff) aiff wave

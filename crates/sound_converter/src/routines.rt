@@ -1,8 +1,8 @@
 // The routines for users.
-ghost use Rattle.std.specs.Prelude.{◌≡◌, ◌⊎◌, ◌≤◌, length};
+ghost use Rattle.std.specs.Prelude.{◌≡◌, ◌⊎◌, Ok, ◌≤◌, length};
 ghost use Rattle.byte_order.specs.declared.bytes.ByteOrder.TheVariants.{Little, Big};
 ghost use Rattle.pcm.specs.declared.sample.Encoding.TheVariants.{Pcm16};
-ghost use Rattle.wave_sound.specs.declared.sound.Found.TheVariants.{Holds};
+ghost use Rattle.wave_sound.specs.Refusal.{number_of};
 ghost use Rattle.wave_sound.specs.Sound.{Inside};
 ghost use Rattle.wave_reader.specs.Read.{samples_of};
 ghost use Rattle.wave_writer.specs.Write.{file_most, file_of, writing};
@@ -13,7 +13,7 @@ ghost use Rattle.sound_converter.specs.Convert.{room_ok, asked_of_wave, asked_of
 use crate::values::{copy_values, keeps_16, values_of};
 use byte_order::ByteOrder;
 use pcm::Encoding;
-use wave_sound::{Found, Sound, rate_ok};
+use wave_sound::{Refusal, Sound, rate_ok};
 
 // The bytes in front of the data.
 const WAVE_HEAD: usize = 44;
@@ -34,23 +34,23 @@ fn room_ok(head: usize, size: usize, room: usize) -> bool
 }
 
 // 17, 18 and 10, of a WAVE file that holds a sound.
-fn asked_of_wave(wave: &[u8], sound: Sound, room: usize) -> u32
+fn asked_of_wave(wave: &[u8], sound: Sound, room: usize) -> Result<(), Refusal>
     requires { Inside wave.now sound }
-    ensures { result ≡ asked_of_wave sound wave.now room }
+    ensures { number_of result ≡ asked_of_wave sound wave.now room }
 {
     let encoding = sound.encoding;
     let start = sound.start;
     let count = values_of(sound);
     if !keeps_16(wave, start, encoding, ByteOrder::Little, count) {
-        return 17;
+        return Err(Refusal::NotWhole);
     }
     if !rate_ok(sound.rate) {
-        return 18;
+        return Err(Refusal::FileRate);
     }
     if !room_ok(AIFF_HEAD, count * 2, room) {
-        return 10;
+        return Err(Refusal::Room);
     }
-    0
+    Ok(())
 }
 
 fn put_aiff(wave: &[u8], sound: Sound, aiff: &mut [u8])
@@ -75,41 +75,36 @@ fn put_aiff(wave: &[u8], sound: Sound, aiff: &mut [u8])
     );
 }
 
-fn to_aiff(wave: &[u8], sound: Sound, aiff: &mut [u8]) -> u32
+fn to_aiff(wave: &[u8], sound: Sound, aiff: &mut [u8]) -> Result<(), Refusal>
     requires { Inside wave.now sound }
-    ensures { writing result aiff.new ≡ to_aiff (Holds sound) wave.now aiff.old }
+    ensures { writing (number_of result) aiff.new ≡ to_aiff (Ok sound) wave.now aiff.old }
 {
-    let number = asked_of_wave(wave, sound, aiff.len());
-    if number != 0 {
-        return number;
-    }
+    asked_of_wave(wave, sound, aiff.len())?;
     put_aiff(wave, sound, aiff);
-    0
+    Ok(())
 }
 
 // The AIFF file of a WAVE file's samples, where 16 bits hold them.
-pub fn wave_to_aiff(wave: &[u8], aiff: &mut [u8]) -> u32
-    ensures { writing result aiff.new ≡ wave_to_aiff wave.now aiff.old }
+pub fn wave_to_aiff(wave: &[u8], aiff: &mut [u8]) -> Result<(), Refusal>
+    ensures { writing (number_of result) aiff.new ≡ wave_to_aiff wave.now aiff.old }
 {
-    match wave_sound::sound_in(wave) {
-        Found::Holds(sound) => to_aiff(wave, sound, aiff),
-        Found::Refused(number) => number,
-    }
+    let sound = wave_sound::sound_in(wave)?;
+    to_aiff(wave, sound, aiff)
 }
 
 // 10, of an AIFF file that holds a sound.
-fn asked_of_aiff(sound: Sound, room: usize) -> u32
+fn asked_of_aiff(sound: Sound, room: usize) -> Result<(), Refusal>
     requires { (sound.channels ≡ 1) ⊎ (sound.channels ≡ 2) }
-    ensures { result ≡ asked_of_aiff sound room }
+    ensures { number_of result ≡ asked_of_aiff sound room }
 {
     if !room_ok(WAVE_HEAD, values_of(sound) * 2, room) {
-        return 10;
+        return Err(Refusal::Room);
     }
-    0
+    Ok(())
 }
 
 fn put_wave(aiff: &[u8], sound: Sound, wave: &mut [u8])
-    requires sound_of_the_file { sound_in aiff.now ≡ Holds sound }
+    requires sound_of_the_file { sound_in aiff.now ≡ Ok sound }
     requires not_refused { asked_of_aiff sound (length wave.old) ≡ 0 }
     ensures { wave.new ≡ file_of sound.rate sound.channels Pcm16 (samples_of Big aiff.now sound) }
 {
@@ -130,24 +125,19 @@ fn put_wave(aiff: &[u8], sound: Sound, wave: &mut [u8])
     );
 }
 
-fn to_wave(aiff: &[u8], sound: Sound, wave: &mut [u8]) -> u32
-    requires { sound_in aiff.now ≡ Holds sound }
-    ensures { writing result wave.new ≡ to_wave (Holds sound) aiff.now wave.old }
+fn to_wave(aiff: &[u8], sound: Sound, wave: &mut [u8]) -> Result<(), Refusal>
+    requires { sound_in aiff.now ≡ Ok sound }
+    ensures { writing (number_of result) wave.new ≡ to_wave (Ok sound) aiff.now wave.old }
 {
-    let number = asked_of_aiff(sound, wave.len());
-    if number != 0 {
-        return number;
-    }
+    asked_of_aiff(sound, wave.len())?;
     put_wave(aiff, sound, wave);
-    0
+    Ok(())
 }
 
 // The 16-bit WAVE file of an AIFF file's samples.
-pub fn aiff_to_wave(aiff: &[u8], wave: &mut [u8]) -> u32
-    ensures { writing result wave.new ≡ aiff_to_wave aiff.now wave.old }
+pub fn aiff_to_wave(aiff: &[u8], wave: &mut [u8]) -> Result<(), Refusal>
+    ensures { writing (number_of result) wave.new ≡ aiff_to_wave aiff.now wave.old }
 {
-    match aiff_sound::sound_in(aiff) {
-        Found::Holds(sound) => to_wave(aiff, sound, wave),
-        Found::Refused(number) => number,
-    }
+    let sound = aiff_sound::sound_in(aiff)?;
+    to_wave(aiff, sound, wave)
 }

@@ -9,7 +9,6 @@ ghost use Rattle.sound_converter.specs.Convert.{AllWhole, keeps16, value_as16, v
 
 use byte_order::ByteOrder;
 use pcm::{Encoding, is_whole_16, put_sample, sample_at};
-use sound_data::width_of;
 use wave_sound::Sound;
 
 // The bytes of a value.
@@ -30,13 +29,11 @@ fn floats_whole(bytes: &[u8], start: usize, order: ByteOrder, count: usize) -> b
     requires { start + count * width Float32 ≤ length bytes.now }
     ensures { result ≡ every count (λ k. whole16 (value_at Float32 order bytes.now start k)) }
 {
-    let mut i = 0;
-    while i < count {
+    for i in 0..count {
         let x = sample_at(bytes, start + i * FLOAT_BYTES, Encoding::Float32, order);
         if !is_whole_16(x) {
             return false;
         }
-        i += 1;
     }
     true
 }
@@ -74,11 +71,9 @@ pub fn copy_values(
     requires room_for_values { place + count * width Pcm16 ≤ length file.old }
     ensures { file.new ≡ put_at place (pieces (value_as16 encoding order bytes.now start into) count) file.old }
 {
-    let step = width_of(encoding);
-    let mut i = 0;
-    while i < count {
+    let step = encoding.width();
+    for i in 0..count {
         let x = sample_at(bytes, start + i * step, encoding, order);
         put_sample(file, place + i * PCM_BYTES, Encoding::Pcm16, into, x);
-        i += 1;
     }
 }

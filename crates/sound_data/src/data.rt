@@ -8,15 +8,6 @@ ghost use Rattle.sound_data.specs.Data.{samples_in, encoded_at, data_of, AllInRa
 use byte_order::ByteOrder;
 use pcm::{Encoding, put_sample, sample_at};
 
-pub fn width_of(encoding: Encoding) -> usize
-    ensures { (result ≤ 4) × (result ≡ width encoding) }
-{
-    match encoding {
-        Encoding::Pcm16 => 2,
-        Encoding::Float32 => 4,
-    }
-}
-
 fn read_stereo(
     bytes: &[u8],
     start: usize,
@@ -28,11 +19,9 @@ fn read_stereo(
     requires values_in_bytes { start + length samples.old * width encoding ≤ length bytes.now }
     ensures { samples.new ≡ samples_in encoding order 2 bytes.now start (length samples.old / 2) }
 {
-    let step = width_of(encoding);
-    let mut i = 0;
-    while i < samples.len() {
+    let step = encoding.width();
+    for i in 0..samples.len() {
         samples[i] = sample_at(bytes, start + i * step, encoding, order);
-        i += 1;
     }
 }
 
@@ -41,14 +30,12 @@ fn read_mono(bytes: &[u8], start: usize, encoding: Encoding, order: ByteOrder, s
     requires values_in_bytes { start + length samples.old / 2 * width encoding ≤ length bytes.now }
     ensures { samples.new ≡ samples_in encoding order 1 bytes.now start (length samples.old / 2) }
 {
-    let step = width_of(encoding);
+    let step = encoding.width();
     let frames = samples.len() / 2;
-    let mut i = 0;
-    while i < frames {
+    for i in 0..frames {
         let x = sample_at(bytes, start + i * step, encoding, order);
         samples[i * 2] = x;
         samples[i * 2 + 1] = x;
-        i += 1;
     }
 }
 
@@ -115,11 +102,9 @@ fn write_values(
     requires room_for_values { start + count * width encoding ≤ length bytes.old }
     ensures { bytes.new ≡ put_at start (pieces (encoded_at encoding order samples.now step) count) bytes.old }
 {
-    let size = width_of(encoding);
-    let mut i = 0;
-    while i < count {
+    let size = encoding.width();
+    for i in 0..count {
         put_sample(bytes, start + i * size, encoding, order, samples[i * step]);
-        i += 1;
     }
 }
 

@@ -3,4 +3,4 @@
 
 mod data;
 
-pub use data::{read_samples, width_of, write_samples};
+pub use data::{read_samples, write_samples};

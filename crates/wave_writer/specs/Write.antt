@@ -1,5 +1,5 @@
 -- What the writer answers, and the file that it leaves. A refusal leaves the file as it was.
-use Rattle.std.specs.Prelude.{Bool, cond, ◌&&◌, List, ◌++◌, ℕ, ◌+◌, ◌*◌, ◌/◌, ◌%◌, eqb, leb, length, Float}
+use Rattle.std.specs.Prelude.{Option, Some, None, unwrap_or, option_and_then, Bool, cond, ◌&&◌, List, ◌++◌, ℕ, ◌+◌, ◌*◌, ◌/◌, ◌%◌, eqb, leb, length, Float}
 use Rattle.byte_order.specs.declared.bytes.ByteOrder.TheVariants.{Little, Big}
 use Rattle.byte_order.specs.Bytes.{bytes_of}
 use Rattle.pcm.specs.declared.sample.Encoding.{Encoding}
@@ -7,8 +7,6 @@ use Rattle.pcm.specs.declared.sample.Encoding.TheVariants.{Pcm16, Float32}
 use Rattle.pcm.specs.Sample.{width}
 use Rattle.scene_questions.specs.Questions.{samples_ok}
 use Rattle.sound_data.specs.Data.{data_of}
-use Rattle.wave_sound.specs.declared.sound.Kind.{Kind}
-use Rattle.wave_sound.specs.declared.sound.Kind.TheVariants.{Known, Other}
 use Rattle.wave_sound.specs.Sound.{riff, wave, format_chunk, data_chunk, channels_ok, rate_ok}
 
 -- ---- the file
@@ -78,28 +76,30 @@ unfoldable pub answered : ℕ → List ℕ → List ℕ → Writing
 answered number written file = cond (eqb number 0) (writing 0 written) (writing number file)
 
 -- 16 bits are whole numbers, 32 are floats.
-unfoldable pub kind_of_bits : ℕ → Kind
-kind_of_bits bits = cond (eqb bits 16) (Known Pcm16) (cond (eqb bits 32) (Known Float32) Other)
+unfoldable pub kind_of_bits : ℕ → Option Encoding
+kind_of_bits bits = cond (eqb bits 16) (Some Pcm16) (cond (eqb bits 32) (Some Float32) None)
 
 -- 4, then 15, of the bits
-unfoldable pub write_kind : Kind → ℕ → ℕ → List Float → List ℕ → Writing
-write_kind (Known encoding) rate channels samples file =
+unfoldable pub write_kind : Option Encoding → ℕ → ℕ → List Float → List ℕ → Writing
+write_kind (Some encoding) rate channels samples file =
     answered (asked head_length rate channels encoding samples (length file)) (file_of rate channels encoding samples) file
-write_kind Other rate channels samples file = writing (cond (rate_ok rate) 15 4) file
+write_kind None rate channels samples file = writing (cond (rate_ok rate) 15 4) file
 
 unfoldable pub write_of : ℕ → ℕ → ℕ → List Float → List ℕ → Writing
 write_of rate channels bits samples file = write_kind (kind_of_bits bits) rate channels samples file
 
--- ---- the length that the file of so many samples needs, 0 where there is none
+-- ---- the length that the file of so many samples needs, where there is such a file; as a number, 0 where there is none
 
-unfoldable pub length_with : ℕ → ℕ → ℕ → Encoding → ℕ
-length_with head samples channels encoding =
+unfoldable pub bytes_with : ℕ → ℕ → ℕ → Encoding → Option ℕ
+bytes_with head samples channels encoding =
     let size = data_length samples channels encoding in
-    cond (channels_ok channels) (cond (leb (head + size) file_most) (head + size) 0) 0
+    cond (channels_ok channels) (cond (leb (head + size) file_most) (Some (head + size)) None) None
 
-unfoldable pub length_known : Kind → ℕ → ℕ → ℕ
-length_known (Known encoding) samples channels = length_with head_length samples channels encoding
-length_known Other samples channels = 0
+abbrev pub length_with : ℕ → ℕ → ℕ → Encoding → ℕ
+length_with head samples channels encoding = unwrap_or (bytes_with head samples channels encoding) 0
 
-unfoldable pub length_for : ℕ → ℕ → ℕ → ℕ
-length_for samples channels bits = length_known (kind_of_bits bits) samples channels
+unfoldable pub bytes_for : ℕ → ℕ → ℕ → Option ℕ
+bytes_for samples channels bits = option_and_then (bytes_with head_length samples channels) (kind_of_bits bits)
+
+abbrev pub length_for : ℕ → ℕ → ℕ → ℕ
+length_for samples channels bits = unwrap_or (bytes_for samples channels bits) 0

@@ -1,29 +1,28 @@
-// The file of given samples, or the number of its refusal.
-ghost use Rattle.std.specs.Prelude.{◌≡◌, cond, length};
+// The file of given samples, or why it is refused.
+ghost use Rattle.std.specs.Prelude.{◌≡◌, Some, cond, length};
+ghost use Rattle.wave_sound.specs.Refusal.{refusal_number, number_of};
 ghost use Rattle.wave_sound.specs.Sound.{rate_ok};
-ghost use Rattle.wave_sound.specs.declared.sound.Kind.TheVariants.{Known};
-ghost use Rattle.wave_writer.specs.Write.{head_length, length_for, asked, kind_of_bits, file_of, writing, write_kind, write_of};
+ghost use Rattle.wave_writer.specs.Write.{head_length, bytes_for, asked, kind_of_bits, file_of, writing, write_kind, write_of};
 
 use crate::head::put_head;
 use crate::questions::{asked, data_length, file_length};
 use byte_order::ByteOrder;
 use pcm::Encoding;
 use sound_data::write_samples;
-use wave_sound::{Kind, rate_ok};
+use wave_sound::{Refusal, rate_ok};
 
 // The bytes in front of the data.
 const HEAD: usize = 44;
 
-fn kind_of(bits: u32) -> Kind
+#[tactic(auto, unfolding(crate::specs::Write::kind_of_bits))]
+fn kind_of(bits: u32) -> Option<Encoding>
     ensures { result ≡ kind_of_bits bits }
 {
-    if bits == 16 {
-        return Kind::Known(Encoding::Pcm16);
+    match bits {
+        16 => Some(Encoding::Pcm16),
+        32 => Some(Encoding::Float32),
+        _ => None,
     }
-    if bits == 32 {
-        return Kind::Known(Encoding::Float32);
-    }
-    Kind::Other
 }
 
 fn write_file(rate: u32, channels: u32, encoding: Encoding, samples: &[f32], file: &mut [u8])
@@ -48,39 +47,47 @@ fn write_known(
     encoding: Encoding,
     samples: &[f32],
     file: &mut [u8],
-) -> u32
-    ensures { writing result file.new ≡ write_kind (Known encoding) rate channels samples.now file.old }
+) -> Result<(), Refusal>
+    ensures { writing (number_of result) file.new
+        ≡ write_kind (Some encoding) rate channels samples.now file.old }
 {
-    let number = asked(HEAD, rate, channels, encoding, samples, file.len());
-    if number != 0 {
-        return number;
-    }
+    asked(HEAD, rate, channels, encoding, samples, file.len())?;
     write_file(rate, channels, encoding, samples, file);
-    0
+    Ok(())
 }
 
-fn other_kind(rate: u32) -> u32
-    ensures { result ≡ cond (rate_ok rate) 15 4 }
+fn other_kind(rate: u32) -> Refusal
+    ensures { refusal_number result ≡ cond (rate_ok rate) 15 4 }
 {
-    if rate_ok(rate) { 15 } else { 4 }
-}
-
-// Answers 0 and writes the whole file, or answers the number of the refusal and writes nothing.
-pub fn write(rate: u32, channels: u32, bits: u32, samples: &[f32], file: &mut [u8]) -> u32
-    ensures { writing result file.new ≡ write_of rate channels bits samples.now file.old }
-{
-    match kind_of(bits) {
-        Kind::Known(encoding) => write_known(rate, channels, encoding, samples, file),
-        Kind::Other => other_kind(rate),
+    if rate_ok(rate) {
+        Refusal::OtherKind
+    } else {
+        Refusal::Rate
     }
 }
 
-// The bytes of the file of so many samples, or 0 where there is no such file.
-pub fn length(samples: usize, channels: u32, bits: u32) -> usize
-    ensures { result ≡ length_for samples channels bits }
+// Writes the whole file, or writes nothing.
+pub fn write(
+    rate: u32,
+    channels: u32,
+    bits: u32,
+    samples: &[f32],
+    file: &mut [u8],
+) -> Result<(), Refusal>
+    ensures { writing (number_of result) file.new
+        ≡ write_of rate channels bits samples.now file.old }
 {
     match kind_of(bits) {
-        Kind::Known(encoding) => file_length(HEAD, samples, channels, encoding),
-        Kind::Other => 0,
+        Some(encoding) => write_known(rate, channels, encoding, samples, file),
+        None => Err(other_kind(rate)),
     }
+}
+
+// The bytes of the file of so many samples, where there is such a file.
+#[tactic(auto, unfolding(crate::specs::Write::bytes_for))]
+pub fn length(samples: usize, channels: u32, bits: u32) -> Option<usize>
+    ensures { result ≡ bytes_for samples channels bits }
+{
+    let encoding = kind_of(bits)?;
+    file_length(HEAD, samples, channels, encoding)
 }

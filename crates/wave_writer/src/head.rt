@@ -7,9 +7,9 @@ ghost use Rattle.wave_writer.specs.Write.{tag_of, riff_of, format_start, format_
 
 use byte_order::{ByteOrder, put_number2, put_number4};
 use pcm::Encoding;
-use sound_data::width_of;
 use wave_sound::{DATA, FLOAT, FORMAT, FORMAT_SIZE, PCM, RIFF, WAVE};
 
+#[tactic(auto, unfolding(crate::specs::Write::tag_of))]
 fn tag_of(encoding: Encoding) -> u32
     ensures { result ≡ tag_of encoding }
 {
@@ -65,7 +65,7 @@ pub fn put_head(file: &mut [u8], rate: u32, channels: u32, encoding: Encoding, s
     requires at_most_two_channels { channels ≤ 2 }
     ensures { file.new ≡ put_at 0 (head_of rate channels encoding size) file.old }
 {
-    let width = width_of(encoding) as u32;
+    let width = encoding.width() as u32;
     put_riff(file, size);
     put_format_start(file, channels, encoding);
     put_format_rest(file, rate, channels * width, width * 8);

@@ -2,12 +2,12 @@
 // file, by the bytes in front of the data.
 ghost use Rattle.std.specs.Prelude.{◌≡◌, true, ◌<◌, ◌≤◌};
 ghost use Rattle.wave_sound.specs.Sound.{channels_ok};
-ghost use Rattle.wave_writer.specs.Write.{file_most, data_length, length_ok, length_with, asked};
+ghost use Rattle.wave_sound.specs.Refusal.{number_of};
+ghost use Rattle.wave_writer.specs.Write.{file_most, data_length, length_ok, bytes_with, asked};
 
 use pcm::Encoding;
 use scene_questions::samples_ok;
-use sound_data::width_of;
-use wave_sound::{channels_ok, rate_ok};
+use wave_sound::{Refusal, channels_ok, rate_ok};
 
 // The most bytes of a file: the size of all but the first 8 has 32 bits.
 const FILE_MOST: usize = 0xffff_ffff + 8;
@@ -17,7 +17,7 @@ pub fn data_length(samples: usize, channels: usize, encoding: Encoding) -> usize
     requires one_or_two_channels { channels_ok channels ≡ true }
     ensures { result ≡ data_length samples channels encoding }
 {
-    samples / 2 * channels * width_of(encoding)
+    samples / 2 * channels * encoding.width()
 }
 
 fn length_ok(head: usize, size: usize, room: usize) -> bool
@@ -30,7 +30,7 @@ fn length_ok(head: usize, size: usize, room: usize) -> bool
     room == head + size
 }
 
-// The number of the first question that says no, or 0.
+// The first question that says no.
 pub fn asked(
     head: usize,
     rate: u32,
@@ -38,43 +38,43 @@ pub fn asked(
     encoding: Encoding,
     samples: &[f32],
     room: usize,
-) -> u32
+) -> Result<(), Refusal>
     requires { head ≤ file_most }
-    ensures { result ≡ asked head rate channels encoding samples.now room }
+    ensures { number_of result ≡ asked head rate channels encoding samples.now room }
 {
     if !rate_ok(rate) {
-        return 4;
+        return Err(Refusal::Rate);
     }
     if !channels_ok(channels) {
-        return 15;
+        return Err(Refusal::OtherKind);
     }
     if samples.len() % 2 != 0 {
-        return 8;
+        return Err(Refusal::OddSamples);
     }
     if !samples_ok(samples) {
-        return 9;
+        return Err(Refusal::SampleRange);
     }
     let size = data_length(samples.len(), channels as usize, encoding);
     if !length_ok(head, size, room) {
-        return 10;
+        return Err(Refusal::Room);
     }
-    0
+    Ok(())
 }
 
-// The bytes of the file of so many samples, or 0 where there is no such file.
-pub fn file_length(head: usize, samples: usize, channels: u32, encoding: Encoding) -> usize
+// The bytes of the file of so many samples, where there is such a file.
+pub fn file_length(head: usize, samples: usize, channels: u32, encoding: Encoding) -> Option<usize>
     requires { head ≤ file_most }
-    ensures { result ≡ length_with head samples channels encoding }
+    ensures { result ≡ bytes_with head samples channels encoding }
 {
     if !channels_ok(channels) {
-        return 0;
+        return None;
     }
     if FILE_MOST < samples {
-        return 0;
+        return None;
     }
     let size = data_length(samples, channels as usize, encoding);
     if FILE_MOST - head < size {
-        return 0;
+        return None;
     }
-    head + size
+    Some(head + size)
 }

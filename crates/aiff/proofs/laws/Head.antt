@@ -13,13 +13,13 @@ use Rattle.byte_order.proofs.laws.Bytes.{number_of_bytes}
 use Rattle.iff_chunks.specs.Chunks.{identifier, letters_after, identifier_at, size_at, is_form, found, walk_of}
 use Rattle.iff_chunks.proofs.laws.Walk.{Walks, walks_start, walks_on, walks_end, noted_new, noted_kept, noted_none}
 use Rattle.pcm.specs.declared.sample.Encoding.TheVariants.{Pcm16}
-use Rattle.wave_sound.specs.declared.sound.Found.TheVariants.{Holds}
+use Rattle.std.specs.Prelude.{Option, Some, None, Ok, unwrap_or}
 use Rattle.wave_sound.specs.Sound.{channels_ok, rate_ok}
 use Rattle.wave_sound.proofs.laws.Sound.{channels_are}
 use Rattle.aiff_rate.specs.Rate.{unit, least_rate, most_rate, whole_at, shift_of, rate_bytes}
 use Rattle.aiff_rate.proofs.laws.Bytes.{digits_short, whole_back}
-use Rattle.aiff_sound.specs.Sound.{form_chunk, aiff, common_chunk, sound_chunk, sound_of, sound_at, has_chunks, sound_in}
-use Rattle.aiff_sound.proofs.laws.Sound.{sound_by_lem, found_by_lem}
+use Rattle.aiff_sound.specs.Sound.{form_chunk, aiff, common_chunk, sound_chunk, sound_of, sound_at, sound_in}
+use Rattle.aiff_sound.proofs.laws.Sound.{sound_by_lem, chunks_whole}
 use Rattle.aiff_writer.specs.Write.{form_of, common_start, common_rest, sound_header_of, head_of}
 use Rattle.aiff_writer.proofs.laws.Head.{length_head}
 
@@ -92,31 +92,25 @@ module _ (rate channels frames size : ℕ) (body : List ℕ) where
       ∙ ap₂ ◌&&◌ (eq-eqb (identifier_at f 0) form_chunk outer) (eq-eqb (identifier_at f 8) aiff form)
 
   module _ (sized : length body ≡ size) (small : 46 + size ≤ 4294967295) (even : size % 2 ≡ 0) where
-    all_chunks : found 12 38 true ≡ walk_of Big common_chunk sound_chunk (head_of rate channels frames size ++ body)
+    all_chunks : found (Some 12) (Some 38) true ≡ walk_of Big common_chunk sound_chunk (head_of rate channels frames size ++ body)
     all_chunks =
         let f = head_of rate channels frames size ++ body in
         let end = walk_of Big common_chunk sound_chunk f in
-        let one : Walks Big common_chunk sound_chunk f 38 12 0 end = walks_on Big common_chunk sound_chunk f 12 0 0 end (walks_start Big common_chunk sound_chunk f) (sym common_size)
-        (noted_new 0 (identifier_at f 12) common_chunk 12 refl common_name) (noted_none 0 (identifier_at f 12) sound_chunk 12 refl (λ e. apart (sym common_name ∙ e))) (omega (arith, long)) refl in
-        let two : Walks Big common_chunk sound_chunk f (38 + 8 + (8 + size) + (8 + size) % 2) 12 38 end = walks_on Big common_chunk sound_chunk f 38 12 0 end one (sym (sound_size (omega arith)))
-        (noted_kept 12 (identifier_at f 38) common_chunk 38 (λ e. omega arith)) (noted_new 0 (identifier_at f 38) sound_chunk 38 refl sound_name) (omega (arith, long)) refl in
-        walks_end Big common_chunk sound_chunk f (38 + 8 + (8 + size) + (8 + size) % 2) 12 38 end two (omega (arith, long))
-
-    has : has_chunks (head_of rate channels frames size ++ body) 12 38 ≡ true
-    unfolding has_chunks
-    has =
-        let f = head_of rate channels frames size ++ body in
-        ap₂ (λ (t u : Bool). t && u) (eq-eqb (size_at Big f 12) 18 common_size) (le-leb 8 (size_at Big f 38) (omega (arith, sound_size (omega arith))))
+        let one : Walks Big common_chunk sound_chunk f 38 (Some 12) None end = walks_on Big common_chunk sound_chunk f 12 None None end (walks_start Big common_chunk sound_chunk f) (sym common_size)
+        (noted_new (identifier_at f 12) common_chunk 12 common_name) (noted_none (identifier_at f 12) sound_chunk 12 (λ e. apart (sym common_name ∙ e))) (omega (arith, long)) refl in
+        let two : Walks Big common_chunk sound_chunk f (38 + 8 + (8 + size) + (8 + size) % 2) (Some 12) (Some 38) end = walks_on Big common_chunk sound_chunk f 38 (Some 12) None end one (sym (sound_size (omega arith)))
+        (noted_kept (identifier_at f 38) common_chunk 38 12) (noted_new (identifier_at f 38) sound_chunk 38 sound_name) (omega (arith, long)) refl in
+        walks_end Big common_chunk sound_chunk f (38 + 8 + (8 + size) + (8 + size) % 2) (Some 12) (Some 38) end two (omega (arith, long))
 
     pub head_holds : rate_ok rate ≡ true → (least_rate ≤ rate) × (rate ≤ most_rate) → channels_ok channels ≡ true → frames < 4294967296 → size ≡ frames * channels * 2
-        → sound_in (head_of rate channels frames size ++ body) ≡ Holds (record { rate = rate; channels = channels; encoding = Pcm16; start = 54; frames = frames })
+        → sound_in (head_of rate channels frames size ++ body) ≡ Ok (record { rate = rate; channels = channels; encoding = Pcm16; start = 54; frames = frames })
     unfolding sound_at
     head_holds r l c k z =
         let f = head_of rate channels frames size ++ body in
-        let w : whole_at f 28 ≡ rate = whole_back rate l.0 l.1 f 28 power (digits (digits_short rate l.0 l.1)) in
+        let w : whole_at f 28 ≡ Some rate = whole_back rate l.0 l.1 f 28 power (digits (digits_short rate l.0 l.1)) in
         let s : channels < 65536 = omega (arith, (channels_are channels c).1) in
-        sym (found_by_lem f (found 12 38 true) all_chunks is_form_lem has refl)
-        ∙ ap₂ (λ (x y : ℕ). sound_of (38 + 16 + x) y x (number_at Big f 20 2) (number_at Big f 22 4) (number_at Big f 26 2) (whole_at f 28)) offset (sound_size (omega arith))
-        ∙ ap₂ (λ (x y : ℕ). sound_of 54 (8 + size) 0 x y (number_at Big f 26 2) (whole_at f 28)) (sides s) (frame_count k)
-        ∙ ap₂ (λ (x y : ℕ). sound_of 54 (8 + size) 0 channels frames x y) bits w
+        sym (chunks_whole f (found (Some 12) (Some 38) true) all_chunks refl refl is_form_lem common_size (omega (arith, sound_size (omega arith))) refl)
+        ∙ ap₂ (λ (x y : ℕ). sound_of (38 + 16 + x) y x (number_at Big f 20 2) (number_at Big f 22 4) (number_at Big f 26 2) (unwrap_or (whole_at f 28) 0)) offset (sound_size (omega arith))
+        ∙ ap₂ (λ (x y : ℕ). sound_of 54 (8 + size) 0 x y (number_at Big f 26 2) (unwrap_or (whole_at f 28) 0)) (sides s) (frame_count k)
+        ∙ ap₂ (λ (x y : ℕ). sound_of 54 (8 + size) 0 channels frames x y) bits (ap (λ (x : Option ℕ). unwrap_or x 0) w)
         ∙ sym (sound_by_lem 54 (8 + size) 0 channels frames 16 rate c refl (le-leb (8 + 0 + frames * channels * 2) (8 + size) (omega arith)) r)

@@ -11,7 +11,7 @@ use Rattle.pcm.specs.declared.sample.Encoding.TheVariants.{Pcm16}
 use Rattle.pcm.specs.Sample.{width}
 use Rattle.sound_data.specs.Data.{samples_in, data_of, ComesBack}
 use Rattle.sound_data.proofs.laws.Back.{data_back}
-use Rattle.wave_sound.specs.declared.sound.Found.TheVariants.{Holds}
+use Rattle.std.specs.Prelude.{Ok}
 use Rattle.wave_sound.specs.Sound.{channels_ok, rate_ok}
 use Rattle.wave_sound.proofs.laws.Sound.{one_or_two, rate_is}
 use Rattle.wave_reader.specs.Read.{reading, samples_of}
@@ -34,7 +34,7 @@ module _ (rate channels : ℕ) (samples : List Float) (r : rate_ok rate ≡ true
   unfolding data_length width
   in_frames = refl
 
-  pub file_holds : sound_in (file_of rate channels samples) ≡ Holds (record { rate = rate; channels = channels; encoding = Pcm16; start = head_length; frames = length samples / 2 })
+  pub file_holds : sound_in (file_of rate channels samples) ≡ Ok (record { rate = rate; channels = channels; encoding = Pcm16; start = head_length; frames = length samples / 2 })
   unfolding file_of
   file_holds =
       head_holds rate channels (length samples / 2) (data_length (length samples) channels Pcm16) (data_of Pcm16 Big channels samples) (own_length Pcm16 Big channels samples) (omega arith)

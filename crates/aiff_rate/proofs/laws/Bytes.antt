@@ -9,6 +9,7 @@ use native.Mathlib.Omega.{arith}
 use lib.Dec.{ltb}
 use lib.ListN.{length, get_or}
 use lib.Pow.{pow-add}
+use Rattle.std.specs.Prelude.{Some, None}
 use borrow.Author.Tests.{lt-ltb}
 use Rattle.laws.proofs.laws.Choice.{cond-true, picks_lt, leaves_lt}
 use Rattle.laws.specs.Pieces.{put_at}
@@ -137,21 +138,21 @@ module _ (rate : ℕ) (l : least_rate ≤ rate) (m : rate ≤ most_rate) where
       (behind Big 2 (unit - shift_of rate) at (at + 2) refl) (behind Big 4 high (at + 2) (at + 6) (omega arith))
       ∙ ap (λ (x : List ℕ). put_at at (power ++ x) bytes) (sym (high_word high) ∙ ap (bytes_of Big 8) (ap (λ (x : ℕ). x * 4294967296) z ∙ in_words))
 
-  pub whole_back : (bytes : List ℕ) (at : ℕ) → number_at Big bytes at 2 ≡ unit - shift_of rate → number_at Big bytes (at + 2) 8 ≡ rate * 2 ^ shift_of rate → whole_at bytes at ≡ rate
+  pub whole_back : (bytes : List ℕ) (at : ℕ) → number_at Big bytes at 2 ≡ unit - shift_of rate → number_at Big bytes (at + 2) 8 ≡ rate * 2 ^ shift_of rate → whole_at bytes at ≡ Some rate
   unfolding whole_at
   whole_back bytes at e f =
       let s = shift_of rate in
-      ap₂ (λ (p d : ℕ). cond (ltb p 32767) (whole_of unit p d) 0) e f
-      ∙ cond-true (ltb (unit - s) 32767) _ 0 (lt-ltb (unit - s) 32767 (omega arith))
+      ap₂ (λ (p d : ℕ). cond (ltb p 32767) (whole_of unit p d) None) e f
+      ∙ cond-true (ltb (unit - s) 32767) _ None (lt-ltb (unit - s) 32767 (omega arith))
       ∙ scaled_whole unit s rate (omega (arith, (shift_scales rate l m).most)) (omega arith)
 
 -- ---- by the power
 
 module _ (bytes : List ℕ) (at : ℕ) where
-  pub endless_none : 32767 ≤ number_at Big bytes at 2 → 0 ≡ whole_at bytes at
+  pub endless_none : 32767 ≤ number_at Big bytes at 2 → None ≡ whole_at bytes at
   unfolding whole_at
-  endless_none h = sym (leaves_lt (number_at Big bytes at 2) 32767 _ 0 h)
+  endless_none h = sym (leaves_lt (number_at Big bytes at 2) 32767 _ None h)
 
   pub number_whole : number_at Big bytes at 2 < 32767 → whole_of unit (number_at Big bytes at 2) (number_at Big bytes (at + 2) 8) ≡ whole_at bytes at
   unfolding whole_at
-  number_whole h = sym (picks_lt (number_at Big bytes at 2) 32767 _ 0 h)
+  number_whole h = sym (picks_lt (number_at Big bytes at 2) 32767 _ None h)

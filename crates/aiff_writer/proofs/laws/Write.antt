@@ -11,9 +11,9 @@ use Rattle.byte_order.proofs.laws.Fields.{put_both}
 use Rattle.pcm.specs.declared.sample.Encoding.TheVariants.{Pcm16}
 use Rattle.pcm.specs.Sample.{width}
 use Rattle.sound_data.specs.Data.{data_of}
-use Rattle.wave_writer.specs.Write.{data_length, asked, answered, length_with}
+use Rattle.wave_writer.specs.Write.{data_length, asked, answered}
 use Rattle.wave_writer.proofs.laws.Write.{Writable, own_length}
-use Rattle.aiff_writer.specs.Write.{head_length, head_of, file_of, write_of, length_for}
+use Rattle.aiff_writer.specs.Write.{head_length, head_of, file_of, write_of}
 use Rattle.aiff_writer.proofs.laws.Head.{length_head}
 
 pub length_file : (rate channels : ℕ) (samples : List Float) → length (file_of rate channels samples) ≡ head_length + data_length (length samples) channels Pcm16
@@ -43,7 +43,3 @@ module _ (rate channels : ℕ) (samples : List Float) (file : List ℕ) where
   pub write_is : answered (asked head_length rate channels Pcm16 samples (length file)) (file_of rate channels samples) file ≡ write_of rate channels samples file
   unfolding write_of
   write_is = refl
-
-pub length_is : (samples channels : ℕ) → length_with head_length samples channels Pcm16 ≡ length_for samples channels
-unfolding length_for
-length_is samples channels = refl

@@ -17,8 +17,9 @@ use Rattle.pcm.specs.Sample.{width}
 use Rattle.sound_data.specs.Data.{data_of}
 use Rattle.sound_data.proofs.laws.Values.{length_samples, data_of_samples}
 use Rattle.wave_sound.specs.declared.sound.Sound.{Sound}
-use Rattle.wave_sound.specs.declared.sound.Found.{Found}
-use Rattle.wave_sound.specs.declared.sound.Found.TheVariants.{Holds, Refused}
+use Rattle.wave_sound.specs.declared.refusal.Refusal.{Refusal}
+use Rattle.wave_sound.specs.Refusal.{refusal_number}
+use Rattle.std.specs.Prelude.{Result, Ok, Err}
 use Rattle.wave_sound.specs.Sound.{rate_ok, sound_in}
 use Rattle.wave_sound.proofs.laws.Sound.{both}
 use Rattle.wave_reader.specs.Read.{samples_of}
@@ -141,27 +142,27 @@ module _ (s : Sound) (order : ByteOrder) (file : List ℕ) where
 -- ---- the answers
 
 module _ (wave aiff : List ℕ) where
-  pub aiff_holds : (s : Sound) → sound_in wave ≡ Holds s → to_aiff (Holds s) wave aiff ≡ wave_to_aiff wave aiff
+  pub aiff_holds : (s : Sound) → sound_in wave ≡ Ok s → to_aiff (Ok s) wave aiff ≡ wave_to_aiff wave aiff
   unfolding wave_to_aiff
-  aiff_holds s e = sym (ap (λ (f : Found). to_aiff f wave aiff) e)
+  aiff_holds s e = sym (ap (λ (f : Result Sound Refusal). to_aiff f wave aiff) e)
 
-  pub aiff_refused : (n : ℕ) → sound_in wave ≡ Refused n → writing n aiff ≡ wave_to_aiff wave aiff
+  pub aiff_refused : (r : Refusal) → sound_in wave ≡ Err r → writing (refusal_number r) aiff ≡ wave_to_aiff wave aiff
   unfolding wave_to_aiff to_aiff
-  aiff_refused n e = sym (ap (λ (f : Found). to_aiff f wave aiff) e)
+  aiff_refused r e = sym (ap (λ (f : Result Sound Refusal). to_aiff f wave aiff) e)
 
-  pub aiff_answer : (s : Sound) → answered (asked_of_wave s wave (length aiff)) (aiff_file_of s.rate s.channels (samples_of Little wave s)) aiff ≡ to_aiff (Holds s) wave aiff
+  pub aiff_answer : (s : Sound) → answered (asked_of_wave s wave (length aiff)) (aiff_file_of s.rate s.channels (samples_of Little wave s)) aiff ≡ to_aiff (Ok s) wave aiff
   unfolding to_aiff
   aiff_answer s = refl
 
 module _ (aiff wave : List ℕ) where
-  pub wave_holds : (s : Sound) → aiff_in aiff ≡ Holds s → to_wave (Holds s) aiff wave ≡ aiff_to_wave aiff wave
+  pub wave_holds : (s : Sound) → aiff_in aiff ≡ Ok s → to_wave (Ok s) aiff wave ≡ aiff_to_wave aiff wave
   unfolding aiff_to_wave
-  wave_holds s e = sym (ap (λ (f : Found). to_wave f aiff wave) e)
+  wave_holds s e = sym (ap (λ (f : Result Sound Refusal). to_wave f aiff wave) e)
 
-  pub wave_refused : (n : ℕ) → aiff_in aiff ≡ Refused n → writing n wave ≡ aiff_to_wave aiff wave
+  pub wave_refused : (r : Refusal) → aiff_in aiff ≡ Err r → writing (refusal_number r) wave ≡ aiff_to_wave aiff wave
   unfolding aiff_to_wave to_wave
-  wave_refused n e = sym (ap (λ (f : Found). to_wave f aiff wave) e)
+  wave_refused r e = sym (ap (λ (f : Result Sound Refusal). to_wave f aiff wave) e)
 
-  pub wave_answer : (s : Sound) → answered (asked_of_aiff s (length wave)) (file_of s.rate s.channels Pcm16 (samples_of Big aiff s)) wave ≡ to_wave (Holds s) aiff wave
+  pub wave_answer : (s : Sound) → answered (asked_of_aiff s (length wave)) (file_of s.rate s.channels Pcm16 (samples_of Big aiff s)) wave ≡ to_wave (Ok s) aiff wave
   unfolding to_wave
   wave_answer s = refl

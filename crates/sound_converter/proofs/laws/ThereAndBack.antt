@@ -15,17 +15,19 @@ use Rattle.pcm.specs.declared.sample.Encoding.TheVariants.{Pcm16}
 use Rattle.sound_data.specs.Data.{ComesBack}
 use Rattle.sound_data.proofs.laws.Values.{samples_come_back}
 use Rattle.wave_sound.specs.declared.sound.Sound.{Sound}
-use Rattle.wave_sound.specs.declared.sound.Found.{Found}
-use Rattle.wave_sound.specs.declared.sound.Found.TheVariants.{Holds, Refused}
+use Rattle.wave_sound.specs.declared.refusal.Refusal.{Refusal}
+use Rattle.wave_sound.specs.Refusal.{refusal_number}
+use Rattle.std.specs.Prelude.{Result, Ok, Err}
 use Rattle.wave_sound.specs.Sound.{rate_ok, sound_in}
 use Rattle.wave_sound.proofs.laws.Sound.{sides_ok}
-use Rattle.wave_sound.proofs.laws.Holds.{holds_inside, sound_numbered}
+use Rattle.wave_sound.proofs.laws.Holds.{holds_inside}
+use Rattle.wave_sound.proofs.laws.Refusals.{refusal_counts}
 use Rattle.wave_reader.specs.Read.{samples_of}
 use Rattle.wave_writer.specs.Write.{head_length, data_length, file_most, file_of, writing}
 use Rattle.wave_writer.proofs.laws.Write.{answer_written, answer_is, length_file as length_wave}
 use Rattle.wave.proofs.laws.ReadBack.{file_holds, file_samples}
 use Rattle.aiff_sound.specs.Sound.{sound_in as aiff_in}
-use Rattle.aiff_sound.proofs.laws.Holds.{holds_sixteen, aiff_numbered}
+use Rattle.aiff_sound.proofs.laws.Holds.{holds_sixteen}
 use Rattle.aiff_writer.specs.Write.{head_length as aiff_head, file_of as aiff_file_of}
 use Rattle.aiff_writer.proofs.laws.Write.{length_file as length_aiff}
 use Rattle.aiff.proofs.laws.ReadBack.{file_holds as aiff_file_holds, file_samples as aiff_file_samples}
@@ -54,10 +56,10 @@ module _ (s : Sound) (order : ByteOrder) (file : List ℕ) (sides : (s.channels 
   abbrev wave_sound : Sound
   wave_sound = record { rate = s.rate; channels = s.channels; encoding = Pcm16; start = head_length; frames = length (samples_of order file s) / 2 }
 
-  in_aiff : aiff_in (aiff_file_of s.rate s.channels (samples_of order file s)) ≡ Holds aiff_sound
+  in_aiff : aiff_in (aiff_file_of s.rate s.channels (samples_of order file s)) ≡ Ok aiff_sound
   in_aiff = aiff_file_holds s.rate s.channels (samples_of order file s) rated (sides_ok s.channels sides) (samples_even s order file) fits_aiff
 
-  in_wave : sound_in (file_of s.rate s.channels Pcm16 (samples_of order file s)) ≡ Holds wave_sound
+  in_wave : sound_in (file_of s.rate s.channels Pcm16 (samples_of order file s)) ≡ Ok wave_sound
   in_wave = file_holds s.rate s.channels Pcm16 (samples_of order file s) rated (sides_ok s.channels sides) (samples_even s order file) fits_wave
 
   aiff_samples : samples_of Big (aiff_file_of s.rate s.channels (samples_of order file s)) aiff_sound ≡ samples_of order file s
@@ -70,11 +72,11 @@ module _ (s : Sound) (order : ByteOrder) (file : List ℕ) (sides : (s.channels 
 
   aiff_has : aiff_contents (aiff_file_of s.rate s.channels (samples_of order file s)) ≡ contents s.rate s.channels (samples_of order file s)
   unfolding aiff_contents contents_of
-  aiff_has = ap (λ (f : Found). contents_of Big f (aiff_file_of s.rate s.channels (samples_of order file s))) in_aiff ∙ ap (contents s.rate s.channels) aiff_samples
+  aiff_has = ap (λ (f : Result Sound Refusal). contents_of Big f (aiff_file_of s.rate s.channels (samples_of order file s))) in_aiff ∙ ap (contents s.rate s.channels) aiff_samples
 
   wave_has : wave_contents (file_of s.rate s.channels Pcm16 (samples_of order file s)) ≡ contents s.rate s.channels (samples_of order file s)
   unfolding wave_contents contents_of
-  wave_has = ap (λ (f : Found). contents_of Little f (file_of s.rate s.channels Pcm16 (samples_of order file s))) in_wave ∙ ap (contents s.rate s.channels) wave_samples
+  wave_has = ap (λ (f : Result Sound Refusal). contents_of Little f (file_of s.rate s.channels Pcm16 (samples_of order file s))) in_wave ∙ ap (contents s.rate s.channels) wave_samples
 
   -- the other converter takes them, into a buffer of the file's length
   same_values : s.frames * s.channels * 2 ≡ length (samples_of order file s) / 2 * s.channels * 2
@@ -112,16 +114,16 @@ module _ (s : Sound) (order : ByteOrder) (file : List ℕ) (sides : (s.channels 
 number_zero : {n : ℕ} {f g : List ℕ} → writing n f ≡ writing 0 g → n ≡ 0
 number_zero e = cc
 
-wave_refused_zero : (n : ℕ) (wave room aiff : List ℕ) → to_aiff (Refused n) wave room ≡ writing 0 aiff → n ≡ 0
+wave_refused_zero : (r : Refusal) (wave room aiff : List ℕ) → to_aiff (Err r) wave room ≡ writing 0 aiff → refusal_number r ≡ 0
 unfolding to_aiff
-wave_refused_zero n wave room aiff e = number_zero e
+wave_refused_zero r wave room aiff e = number_zero e
 
-aiff_refused_zero : (n : ℕ) (aiff room wave : List ℕ) → to_wave (Refused n) aiff room ≡ writing 0 wave → n ≡ 0
+aiff_refused_zero : (r : Refusal) (aiff room wave : List ℕ) → to_wave (Err r) aiff room ≡ writing 0 wave → refusal_number r ≡ 0
 unfolding to_wave
-aiff_refused_zero n aiff room wave e = number_zero e
+aiff_refused_zero r aiff room wave e = number_zero e
 
 module _ (wave room aiff : List ℕ) where
-  wave_there : (s : Sound) → sound_in wave ≡ Holds s → to_aiff (Holds s) wave room ≡ writing 0 aiff → FromWave wave aiff
+  wave_there : (s : Sound) → sound_in wave ≡ Ok s → to_aiff (Ok s) wave room ≡ writing 0 aiff → FromWave wave aiff
   unfolding wave_contents contents_of
   wave_there s e t =
       let samples = samples_of Little wave s in
@@ -130,7 +132,7 @@ module _ (wave room aiff : List ℕ) where
       let i = holds_inside wave s e in
       let r = room_is aiff_head (values_of s * 2) (length room) p.2 in
       let w = keeps_whole Little wave s.start (values_of s) s.encoding p.0 in
-      let own : contents s.rate s.channels samples ≡ contents_of Little (sound_in wave) wave = sym (ap (λ (f : Found). contents_of Little f wave) e) in
+      let own : contents s.rate s.channels samples ≡ contents_of Little (sound_in wave) wave = sym (ap (λ (f : Result Sound Refusal). contents_of Little f wave) e) in
       let long : length aiff ≡ aiff_head + values_of s * 2 = ap length a.1 ∙ length_aiff s.rate s.channels samples ∙ ap (λ (n : ℕ). aiff_head + n) (samples_size s Little wave) in
       record {
         there = ap aiff_contents a.1 ∙ aiff_has s Little wave i.sides p.1 w r.0 ∙ own;
@@ -141,12 +143,12 @@ module _ (wave room aiff : List ℕ) where
         );
       }
 
-  by_wave : (f : Found) → sound_in wave ≡ f → to_aiff f wave room ≡ writing 0 aiff → FromWave wave aiff
-  by_wave (Holds s) e t = wave_there s e t
-  by_wave (Refused n) e t = absurd ((sound_numbered wave).not_zero (e ∙ ap Refused (wave_refused_zero n wave room aiff t)))
+  by_wave : (f : Result Sound Refusal) → sound_in wave ≡ f → to_aiff f wave room ≡ writing 0 aiff → FromWave wave aiff
+  by_wave (Ok s) e t = wave_there s e t
+  by_wave (Err r) e t = absurd (refusal_counts r (wave_refused_zero r wave room aiff t))
 
 module _ (aiff room wave : List ℕ) where
-  aiff_there : (s : Sound) → aiff_in aiff ≡ Holds s → to_wave (Holds s) aiff room ≡ writing 0 wave → FromAiff aiff wave
+  aiff_there : (s : Sound) → aiff_in aiff ≡ Ok s → to_wave (Ok s) aiff room ≡ writing 0 wave → FromAiff aiff wave
   unfolding aiff_contents contents_of
   aiff_there s e t =
       let samples = samples_of Big aiff s in
@@ -155,7 +157,7 @@ module _ (aiff room wave : List ℕ) where
       let i = h.inside in
       let r = room_is head_length (values_of s * 2) (length room) (aiff_passed s (length room) a.0) in
       let w = subst (λ (x : Encoding). AllWhole x Big aiff s.start (values_of s)) (sym h.sixteen) (pcm_whole Big aiff s.start (values_of s)) in
-      let own : contents s.rate s.channels samples ≡ contents_of Big (aiff_in aiff) aiff = sym (ap (λ (f : Found). contents_of Big f aiff) e) in
+      let own : contents s.rate s.channels samples ≡ contents_of Big (aiff_in aiff) aiff = sym (ap (λ (f : Result Sound Refusal). contents_of Big f aiff) e) in
       let long : length wave ≡ head_length + values_of s * 2 = ap length a.1 ∙ length_wave s.rate s.channels Pcm16 samples ∙ ap (λ (n : ℕ). head_length + n) (samples_size s Big aiff) in
       record {
         there = ap wave_contents a.1 ∙ wave_has s Big aiff i.sides h.rated w r.0 ∙ own;
@@ -166,9 +168,9 @@ module _ (aiff room wave : List ℕ) where
         );
       }
 
-  by_aiff : (f : Found) → aiff_in aiff ≡ f → to_wave f aiff room ≡ writing 0 wave → FromAiff aiff wave
-  by_aiff (Holds s) e t = aiff_there s e t
-  by_aiff (Refused n) e t = absurd ((aiff_numbered aiff).not_zero (e ∙ ap Refused (aiff_refused_zero n aiff room wave t)))
+  by_aiff : (f : Result Sound Refusal) → aiff_in aiff ≡ f → to_wave f aiff room ≡ writing 0 wave → FromAiff aiff wave
+  by_aiff (Ok s) e t = aiff_there s e t
+  by_aiff (Err r) e t = absurd (refusal_counts r (aiff_refused_zero r aiff room wave t))
 
 -- THE THEOREM. From either side: a conversion that is accepted keeps rate, channels and samples, and so does the way back, which is accepted too.
 pub there_and_back : ((wave room aiff : List ℕ) → wave_to_aiff wave room ≡ writing 0 aiff → FromWave wave aiff) × ((aiff room wave : List ℕ) → aiff_to_wave aiff room ≡ writing 0 wave → FromAiff aiff wave)

@@ -19,7 +19,7 @@ use Rattle.pcm.specs.declared.sample.Encoding.TheVariants.{Pcm16, Float32}
 use Rattle.pcm.specs.Sample.{whole16, width, sample_at, pattern_of}
 use Rattle.pcm.proofs.laws.Whole.{sample_fits, stored_whole, passes_whole}
 use Rattle.sound_data.specs.Data.{value_at}
-use Rattle.sound_data.proofs.laws.Written.{piece_turn, pieces-length}
+use Rattle.sound_data.proofs.laws.Written.{piece_turn}
 use Rattle.sound_converter.specs.Convert.{AllWhole, keeps16, value_as16, values_most}
 
 -- ---- how many
@@ -72,9 +72,6 @@ module _ (encoding : Encoding) (order : ByteOrder) (bytes : List ℕ) (start : �
   copy_turn i {to} {x} {now} h p v n q =
       piece_turn (value_as16 encoding order bytes start into) (width Pcm16) as16_length place l i h p n
       (q ∙ ap (λ (y : Float). put_at to (bytes_of into (width Pcm16) (pattern_of Pcm16 y)) now) v)
-
-  pub copy_length : (i count : ℕ) {now : List ℕ} → i ≤ count → place + count * width Pcm16 ≤ length l → now ≡ put_at place (pieces (value_as16 encoding order bytes start into) i) l → length now ≡ length l
-  copy_length i count h k e = pieces-length (value_as16 encoding order bytes start into) (width Pcm16) as16_length place l i count h k e
 
 -- a value's bytes, by a number for their width
 pub pcm_step : (place i : ℕ) → place + i * 2 ≡ place + i * width Pcm16

@@ -7,7 +7,7 @@ use native.Mathlib.Omega.{arith}
 use lib.ListN.{length, get_or}
 use lib.Ieee.{Float, nan}
 use Rattle.laws.specs.Pieces.{pieces, put_at}
-use Rattle.laws.proofs.laws.Pieces.{pieces_next, length-pieces, length_put, put_turn}
+use Rattle.laws.proofs.laws.Pieces.{pieces_next, length-pieces, put_turn}
 use Rattle.byte_order.specs.declared.bytes.ByteOrder.{ByteOrder}
 use Rattle.byte_order.specs.Bytes.{bytes_of}
 use Rattle.byte_order.proofs.laws.Bytes.{length_bytes}
@@ -31,11 +31,6 @@ module _ (f : ℕ → List ℕ) (w : ℕ) (each : (k : ℕ) → length (f k) ≡
   piece_turn i h p n q =
       q ∙ put_turn start (pieces f i) (f i) l h n (p ∙ ap (λ (x : ℕ). start + x) (sym (length_all i))) ∙ ap (λ (x : List ℕ). put_at start x l) (sym (pieces_next f i))
 
-  pub pieces-length : (i count : ℕ) {now : List ℕ} → i ≤ count → start + count * w ≤ length l → now ≡ put_at start (pieces f i) l → length now ≡ length l
-  pieces-length i count h k e =
-      let g : i * w ≤ count * w = mul-le-mul_right w h in
-      ap length e ∙ length_put start (pieces f i) l (omega (arith, length_all i))
-
 module _ (encoding : Encoding) (order : ByteOrder) (samples : List Float) (step : ℕ) where
   pub length_encoded : (k : ℕ) → length (encoded_at encoding order samples step k) ≡ width encoding
   unfolding encoded_at
@@ -52,10 +47,6 @@ module _ (encoding : Encoding) (order : ByteOrder) (samples : List Float) (step 
   unfolding encoded_at
   write_turn start i l h e p n q =
       piece_turn (encoded_at encoding order samples step) (width encoding) length_encoded start l i h (p ∙ ap (λ (x : ℕ). start + i * x) e) n q
-
-  pub length_now : (start i count : ℕ) (l : List ℕ) {now : List ℕ} → i ≤ count → start + count * width encoding ≤ length l
-      → now ≡ put_at start (pieces (encoded_at encoding order samples step) i) l → length now ≡ length l
-  length_now start i count l h k e = pieces-length (encoded_at encoding order samples step) (width encoding) length_encoded start l i count h k e
 
 -- ---- one channel or two
 

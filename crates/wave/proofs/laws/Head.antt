@@ -17,9 +17,8 @@ use Rattle.iff_chunks.proofs.laws.Walk.{Walks, walks_start, walks_on, walks_end,
 use Rattle.pcm.specs.declared.sample.Encoding.{Encoding}
 use Rattle.pcm.specs.declared.sample.Encoding.TheVariants.{Pcm16, Float32}
 use Rattle.pcm.specs.Sample.{width}
-use Rattle.wave_sound.specs.declared.sound.Found.TheVariants.{Holds}
-use Rattle.wave_sound.specs.declared.sound.Kind.TheVariants.{Known}
-use Rattle.wave_sound.specs.Sound.{riff, wave, format_chunk, data_chunk, channels_ok, kind_of, sound_of, has_chunks, sound_in}
+use Rattle.std.specs.Prelude.{Some, None, Ok}
+use Rattle.wave_sound.specs.Sound.{riff, wave, format_chunk, data_chunk, channels_ok, kind_of, sound_of, sound_in}
 use Rattle.wave_sound.proofs.laws.Sound.{at_known, sound_whole, chunks_whole, width_pos, frame_small, channels_are}
 use Rattle.wave_writer.specs.Write.{tag_of, riff_of, format_start, format_rest, data_header_of, head_of}
 use Rattle.wave_writer.proofs.laws.Head.{length_head}
@@ -29,7 +28,7 @@ unfolding tag_of
 tag_small Pcm16 = omega arith
 tag_small Float32 = omega arith
 
-kind_own : (e : Encoding) → kind_of (tag_of e) (width e * 8) ≡ Known e
+kind_own : (e : Encoding) → kind_of (tag_of e) (width e * 8) ≡ Some e
 unfolding kind_of tag_of width
 kind_own Pcm16 = refl
 kind_own Float32 = refl
@@ -105,32 +104,28 @@ module _ (rate channels : ℕ) (encoding : Encoding) (size : ℕ) (body : List �
     abbrev walked : Chunks
     walked = walk_of Little format_chunk data_chunk (head_of rate channels encoding size ++ body)
 
-    all_chunks : found 12 36 true ≡ walk_of Little format_chunk data_chunk (head_of rate channels encoding size ++ body)
+    all_chunks : found (Some 12) (Some 36) true ≡ walk_of Little format_chunk data_chunk (head_of rate channels encoding size ++ body)
     all_chunks =
         let f = head_of rate channels encoding size ++ body in
         let end = walk_of Little format_chunk data_chunk f in
-        let one : Walks Little format_chunk data_chunk f 36 12 0 end = walks_on Little format_chunk data_chunk f 12 0 0 end (walks_start Little format_chunk data_chunk f) (sym format_size)
-        (noted_new 0 (identifier_at f 12) format_chunk 12 refl format_name) (noted_none 0 (identifier_at f 12) data_chunk 12 refl (λ e. apart (sym format_name ∙ e))) (omega (arith, long)) refl in
-        let two : Walks Little format_chunk data_chunk f (36 + 8 + size + size % 2) 12 36 end = walks_on Little format_chunk data_chunk f 36 12 0 end one (sym (data_size (omega arith)))
-        (noted_kept 12 (identifier_at f 36) format_chunk 36 (λ e. omega arith)) (noted_new 0 (identifier_at f 36) data_chunk 36 refl data_name) (omega (arith, long)) refl in
-        walks_end Little format_chunk data_chunk f (36 + 8 + size + size % 2) 12 36 end two (omega (arith, long))
-
-    has : has_chunks (head_of rate channels encoding size ++ body) 12 36 ≡ true
-    unfolding has_chunks
-    has = ap (λ (t : Bool). t && true) (eq-eqb (size_at Little (head_of rate channels encoding size ++ body) 12) 16 format_size)
+        let one : Walks Little format_chunk data_chunk f 36 (Some 12) None end = walks_on Little format_chunk data_chunk f 12 None None end (walks_start Little format_chunk data_chunk f) (sym format_size)
+        (noted_new (identifier_at f 12) format_chunk 12 format_name) (noted_none (identifier_at f 12) data_chunk 12 (λ e. apart (sym format_name ∙ e))) (omega (arith, long)) refl in
+        let two : Walks Little format_chunk data_chunk f (36 + 8 + size + size % 2) (Some 12) (Some 36) end = walks_on Little format_chunk data_chunk f 36 (Some 12) None end one (sym (data_size (omega arith)))
+        (noted_kept (identifier_at f 36) format_chunk 36 12) (noted_new (identifier_at f 36) data_chunk 36 data_name) (omega (arith, long)) refl in
+        walks_end Little format_chunk data_chunk f (36 + 8 + size + size % 2) (Some 12) (Some 36) end two (omega (arith, long))
 
     pub head_holds : (frames : ℕ) → rate < 4294967296 → channels_ok channels ≡ true → size ≡ frames * (channels * width encoding)
-        → sound_in (head_of rate channels encoding size ++ body) ≡ Holds (record { rate = rate; channels = channels; encoding = encoding; start = 44; frames = frames })
+        → sound_in (head_of rate channels encoding size ++ body) ≡ Ok (record { rate = rate; channels = channels; encoding = encoding; start = 44; frames = frames })
     head_holds frames r c z =
         let f = head_of rate channels encoding size ++ body in
         let frame : 0 < channels * width encoding = (frame_small channels (width encoding) (channels_are channels c) (width_pos encoding)).0 in
         let q : size / (channels * width encoding) ≡ frames = ap (λ (n : ℕ). n / (channels * width encoding)) z ∙ mul-div_cancel frames frame in
         let w : size % (channels * width encoding) ≡ 0 = ap (λ (n : ℕ). n % (channels * width encoding)) z ∙ mul-mod_left frames (channels * width encoding) in
-        sym (chunks_whole f (found 12 36 true) all_chunks is_form_lem has refl)
+        sym (chunks_whole f (found (Some 12) (Some 36) true) all_chunks is_form_lem refl refl format_size refl)
         ∙ at_known f 12 36 encoding (ap₂ kind_of tag bits ∙ kind_own encoding)
         ∙ fields f r c
         ∙ sym (sound_whole encoding channels rate 44 size (width encoding) refl c w)
-        ∙ ap (λ (n : ℕ). Holds (record { rate = rate; channels = channels; encoding = encoding; start = 44; frames = n })) q
+        ∙ ap (λ (n : ℕ). Ok (record { rate = rate; channels = channels; encoding = encoding; start = 44; frames = n })) q
       where
         fields : (f : List ℕ) → rate < 4294967296 → channels_ok channels ≡ true
             → sound_of encoding (number_at Little (head_of rate channels encoding size ++ body) (12 + 10) 2) (number_at Little (head_of rate channels encoding size ++ body) (12 + 12) 4) (36 + 8) (number_at Little (head_of rate channels encoding size ++ body) (36 + 4) 4)

@@ -13,9 +13,7 @@ use Rattle.pcm.specs.declared.sample.Encoding.{Encoding}
 use Rattle.pcm.specs.Sample.{width}
 use Rattle.sound_data.specs.Data.{samples_in, data_of, ComesBack}
 use Rattle.sound_data.proofs.laws.Back.{data_back}
-use Rattle.wave_sound.specs.declared.sound.Found.TheVariants.{Holds}
-use Rattle.wave_sound.specs.declared.sound.Kind.{Kind}
-use Rattle.wave_sound.specs.declared.sound.Kind.TheVariants.{Known, Other}
+use Rattle.std.specs.Prelude.{Option, Some, None, Ok}
 use Rattle.wave_sound.specs.Sound.{channels_ok, rate_ok, sound_in}
 use Rattle.wave_sound.proofs.laws.Sound.{one_or_two, rate_is}
 use Rattle.wave_reader.specs.Read.{reading, samples_of, read_of}
@@ -34,7 +32,7 @@ module _ (rate channels : ℕ) (encoding : Encoding) (samples : List Float) (r :
   unfolding data_length
   in_frames = mul_assoc (length samples / 2) channels (width encoding)
 
-  pub file_holds : sound_in (file_of rate channels encoding samples) ≡ Holds (record { rate = rate; channels = channels; encoding = encoding; start = head_length; frames = length samples / 2 })
+  pub file_holds : sound_in (file_of rate channels encoding samples) ≡ Ok (record { rate = rate; channels = channels; encoding = encoding; start = head_length; frames = length samples / 2 })
   unfolding file_of
   file_holds =
       head_holds rate channels encoding (data_length (length samples) channels encoding) (data_of encoding Little channels samples) (own_length encoding Little channels samples) (omega arith)
@@ -68,13 +66,13 @@ module _ (rate channels : ℕ) (samples : List Float) (file written : List ℕ) 
   abbrev Made : Encoding → Type 0
   Made encoding = (asked head_length rate channels encoding samples (length file) ≡ 0) × (written ≡ file_of rate channels encoding samples)
 
-  by_kind : (kind : Kind) → write_kind kind rate channels samples file ≡ writing 0 written → (encoding : Encoding) × (kind ≡ Known encoding) × Made encoding
+  by_kind : (kind : Option Encoding) → write_kind kind rate channels samples file ≡ writing 0 written → (encoding : Encoding) × (kind ≡ Some encoding) × Made encoding
   unfolding write_kind
-  by_kind (Known encoding) e =
+  by_kind (Some encoding) e =
       (encoding, refl, answer_is (file_of rate channels encoding samples) file (asked head_length rate channels encoding samples (length file)) written e)
-  by_kind Other e = absurd (never_zero (rate_ok rate) file written e)
+  by_kind None e = absurd (never_zero (rate_ok rate) file written e)
 
-  accepted : (bits : ℕ) → write_of rate channels bits samples file ≡ writing 0 written → (encoding : Encoding) × (kind_of_bits bits ≡ Known encoding) × Made encoding
+  accepted : (bits : ℕ) → write_of rate channels bits samples file ≡ writing 0 written → (encoding : Encoding) × (kind_of_bits bits ≡ Some encoding) × Made encoding
   unfolding write_of
   accepted bits e = by_kind (kind_of_bits bits) e
 

@@ -7,21 +7,12 @@ use native.Mathlib.Omega.{arith}
 use lib.ListN.{length}
 use Rattle.laws.specs.Pieces.{put_at}
 use Rattle.pcm.specs.declared.sample.Encoding.{Encoding}
-use Rattle.pcm.specs.declared.sample.Encoding.TheVariants.{Pcm16, Float32}
 use Rattle.byte_order.specs.declared.bytes.ByteOrder.TheVariants.{Little, Big}
 use Rattle.byte_order.specs.Bytes.{bytes_of}
 use Rattle.byte_order.proofs.laws.Fields.{put_two, put_three, put_four, behind}
 use Rattle.pcm.specs.Sample.{width}
 use Rattle.wave_sound.specs.Sound.{riff, wave, format_chunk, data_chunk}
 use Rattle.wave_writer.specs.Write.{tag_of, riff_of, format_start, format_rest, data_header_of, head_of}
-
-pub tag_pcm : (encoding : Encoding) → encoding ≡ Pcm16 → 1 ≡ tag_of encoding
-unfolding tag_of
-tag_pcm encoding e = sym (ap tag_of e)
-
-pub tag_float : (encoding : Encoding) → encoding ≡ Float32 → 3 ≡ tag_of encoding
-unfolding tag_of
-tag_float encoding e = sym (ap tag_of e)
 
 -- ---- the parts of the head
 

@@ -22,27 +22,11 @@ use Rattle.scene_tables.proofs.laws.Every.{every_at}
 use Rattle.scene_questions.specs.Questions.{sample_ok, samples_ok}
 use Rattle.sound_data.specs.Data.{data_of, AllInRange}
 use Rattle.sound_data.proofs.laws.Back.{length_data}
-use Rattle.wave_sound.specs.declared.sound.Kind.{Kind}
-use Rattle.wave_sound.specs.declared.sound.Kind.TheVariants.{Known, Other}
+use Rattle.std.specs.Prelude.{Option, Some, None}
 use Rattle.wave_sound.specs.Sound.{channels_ok, rate_ok}
 use Rattle.wave_sound.proofs.laws.Sound.{both, channels_are, width_pos}
-use Rattle.wave_writer.specs.Write.{head_length, head_of, data_length, file_of, file_most, Writing, writing, length_ok, asked, answered, kind_of_bits, write_kind, write_of, length_with, length_known, length_for}
+use Rattle.wave_writer.specs.Write.{head_length, head_of, data_length, file_of, file_most, Writing, writing, length_ok, asked, answered, kind_of_bits, write_kind, write_of, bytes_with}
 use Rattle.wave_writer.proofs.laws.Head.{length_head}
-
--- ---- the bits
-
-module _ (bits : ℕ) where
-  pub kind_16 : bits ≡ 16 → Known Pcm16 ≡ kind_of_bits bits
-  unfolding kind_of_bits
-  kind_16 e = sym (cond-true (eqb bits 16) (Known Pcm16) _ (eq-eqb bits 16 e))
-
-  pub kind_32 : (bits ≡ 16 → ⊥) → bits ≡ 32 → Known Float32 ≡ kind_of_bits bits
-  unfolding kind_of_bits
-  kind_32 n e = sym (cond-false (eqb bits 16) (Known Pcm16) _ (ne_eqb bits 16 n) ∙ cond-true (eqb bits 32) (Known Float32) Other (eq-eqb bits 32 e))
-
-  pub kind_none : (bits ≡ 16 → ⊥) → (bits ≡ 32 → ⊥) → Other ≡ kind_of_bits bits
-  unfolding kind_of_bits
-  kind_none n e = sym (cond-false (eqb bits 16) (Known Pcm16) _ (ne_eqb bits 16 n) ∙ cond-false (eqb bits 32) (Known Float32) Other (ne_eqb bits 32 e))
 
 -- ---- lengths
 
@@ -99,36 +83,27 @@ module _ (samples channels : ℕ) (encoding : Encoding) (c : channels_ok channel
       omega (arith, mul_comm (samples / 2) channels, mul_comm (samples / 2 * channels) (width encoding))
 
 module _ (head samples channels : ℕ) (encoding : Encoding) where
-  pub length_no_channels : channels_ok channels ≡ false → 0 ≡ length_with head samples channels encoding
-  unfolding length_with
-  length_no_channels n = sym (cond-false (channels_ok channels) _ 0 n)
+  pub length_no_channels : channels_ok channels ≡ false → None ≡ bytes_with head samples channels encoding
+  unfolding bytes_with
+  length_no_channels n = sym (cond-false (channels_ok channels) _ None n)
 
   module _ (h : head ≤ file_most) (c : channels_ok channels ≡ true) where
-    known : length_with head samples channels encoding ≡ cond (leb (head + data_length samples channels encoding) file_most) (head + data_length samples channels encoding) 0
-    unfolding length_with
-    known = cond-true (channels_ok channels) _ 0 c
+    known : bytes_with head samples channels encoding ≡ cond (leb (head + data_length samples channels encoding) file_most) (Some (head + data_length samples channels encoding)) None
+    unfolding bytes_with
+    known = cond-true (channels_ok channels) _ None c
 
-    pub length_fits : data_length samples channels encoding ≤ file_most - head → head + data_length samples channels encoding ≡ length_with head samples channels encoding
+    pub length_fits : data_length samples channels encoding ≤ file_most - head → Some (head + data_length samples channels encoding) ≡ bytes_with head samples channels encoding
     length_fits k =
         let size = data_length samples channels encoding in
-        sym (known ∙ cond-true (leb (head + size) file_most) _ 0 (le-leb (head + size) file_most (omega arith)))
+        sym (known ∙ cond-true (leb (head + size) file_most) _ None (le-leb (head + size) file_most (omega arith)))
 
-    pub length_none : file_most - head < data_length samples channels encoding → 0 ≡ length_with head samples channels encoding
+    pub length_none : file_most - head < data_length samples channels encoding → None ≡ bytes_with head samples channels encoding
     length_none k =
         let size = data_length samples channels encoding in
-        sym (known ∙ cond-false (leb (head + size) file_most) _ 0 (lt-leb (head + size) file_most (omega arith)))
+        sym (known ∙ cond-false (leb (head + size) file_most) _ None (lt-leb (head + size) file_most (omega arith)))
 
-    pub length_never : file_most < samples → 0 ≡ length_with head samples channels encoding
+    pub length_never : file_most < samples → None ≡ bytes_with head samples channels encoding
     length_never k = length_none (omega (arith, size_least samples channels encoding c))
-
-module _ (samples channels bits : ℕ) where
-  pub length_by : (encoding : Encoding) → kind_of_bits bits ≡ Known encoding → length_with head_length samples channels encoding ≡ length_for samples channels bits
-  unfolding length_for length_known
-  length_by encoding e = sym (ap (λ (k : Kind). length_known k samples channels) e)
-
-  pub length_other : kind_of_bits bits ≡ Other → 0 ≡ length_for samples channels bits
-  unfolding length_for length_known
-  length_other e = sym (ap (λ (k : Kind). length_known k samples channels) e)
 
 -- ---- the samples
 
@@ -255,27 +230,27 @@ module _ (written file : List ℕ) where
   answer_is (suc n) made e = absurd (refused (λ z. omega arith) (answer_refused (suc n) (λ z. omega arith) ∙ e))
 
 module _ (rate channels bits : ℕ) (samples : List Float) (file : List ℕ) where
-  pub write_by : {w : Writing} {encoding : Encoding} → w ≡ write_kind (Known encoding) rate channels samples file → kind_of_bits bits ≡ Known encoding → w ≡ write_of rate channels bits samples file
+  pub write_by : {w : Writing} {encoding : Encoding} → w ≡ write_kind (Some encoding) rate channels samples file → kind_of_bits bits ≡ Some encoding → w ≡ write_of rate channels bits samples file
   unfolding write_of
-  write_by p e = p ∙ sym (ap (λ (k : Kind). write_kind k rate channels samples file) e)
+  write_by p e = p ∙ sym (ap (λ (k : Option Encoding). write_kind k rate channels samples file) e)
 
-  pub write_other : {n : ℕ} → n ≡ cond (rate_ok rate) 15 4 → kind_of_bits bits ≡ Other → writing n file ≡ write_of rate channels bits samples file
+  pub write_other : {n : ℕ} → n ≡ cond (rate_ok rate) 15 4 → kind_of_bits bits ≡ None → writing n file ≡ write_of rate channels bits samples file
   unfolding write_of write_kind
-  write_other z e = ap (λ (n : ℕ). writing n file) z ∙ sym (ap (λ (k : Kind). write_kind k rate channels samples file) e)
+  write_other z e = ap (λ (n : ℕ). writing n file) z ∙ sym (ap (λ (k : Option Encoding). write_kind k rate channels samples file) e)
 
 module _ (rate channels : ℕ) (encoding : Encoding) (samples : List Float) (file : List ℕ) where
-  pub known_is : answered (asked head_length rate channels encoding samples (length file)) (file_of rate channels encoding samples) file ≡ write_kind (Known encoding) rate channels samples file
+  pub known_is : answered (asked head_length rate channels encoding samples (length file)) (file_of rate channels encoding samples) file ≡ write_kind (Some encoding) rate channels samples file
   unfolding write_kind
   known_is = refl
 
   -- the same of a number that was answered
-  pub known_refused : {n : ℕ} → (n ≡ 0 → ⊥) → n ≡ asked head_length rate channels encoding samples (length file) → writing n file ≡ write_kind (Known encoding) rate channels samples file
+  pub known_refused : {n : ℕ} → (n ≡ 0 → ⊥) → n ≡ asked head_length rate channels encoding samples (length file) → writing n file ≡ write_kind (Some encoding) rate channels samples file
   known_refused {n} z e =
       let written = file_of rate channels encoding samples in
       answer_refused written file n z ∙ ap (λ (x : ℕ). answered x written file) e ∙ known_is
 
   pub known_written : {n : ℕ} {m : List ℕ} → n ≡ 0 → n ≡ asked head_length rate channels encoding samples (length file) → m ≡ file_of rate channels encoding samples
-      → writing 0 m ≡ write_kind (Known encoding) rate channels samples file
+      → writing 0 m ≡ write_kind (Some encoding) rate channels samples file
   known_written {n} z e w =
       let written = file_of rate channels encoding samples in
       ap (writing 0) w ∙ answer_written written file n z ∙ ap (λ (x : ℕ). answered x written file) e ∙ known_is

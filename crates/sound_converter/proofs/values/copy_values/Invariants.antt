@@ -1,12 +1,7 @@
 use mathlib.Core.Path.{◌≡◌}
-use Prim.Native.Nat.{◌-◌, ◌≤◌}
-use lib.ListN.{length}
 use Rattle.laws.specs.Pieces.{pieces, put_at}
 use Rattle.sound_converter.specs.Convert.{value_as16}
 use Rattle.sound_converter.proofs.values.copy_values.Given as goal
 
 abbrev pub invariant-loop-i : goal.invariant-loop-i
-invariant-loop-i l = (l.i ≤ l.count) × (length l.file ≡ length l.initial.file) × (l.file ≡ put_at l.place (pieces (value_as16 l.encoding l.order l.bytes l.start l.into) l.i) l.initial.file)
-
-abbrev pub decreases-loop-i : goal.decreases-loop-i
-decreases-loop-i l = l.count - l.i
+invariant-loop-i l = l.file ≡ put_at l.place (pieces (value_as16 l.encoding l.order l.bytes l.start l.into) l.i) l.initial.file

@@ -14,7 +14,7 @@ use borrow.Author.Rules.{rules}
 use Rattle.sound_converter.proofs.values.floats_whole.Goals as goal
 
 pub loop-i-init : goal.loop-i-init
-loop-i-init c = (search rules, every_none _)
+loop-i-init c = every_none _
 
 pub overflow_mul-i : goal.overflow_mul-i
 overflow_mul-i c = omega (arith, inside c.args.start c.loop-i.i c.args.count 4 (length c.args.bytes.now) (sym (float_width Float32 refl)) (search rules) c.requires)
@@ -29,7 +29,7 @@ pub returns-then-not-is_whole_16 : goal.returns-then-not-is_whole_16
 returns-then-not-is_whole_16 c = every_failed c.args.count (λ k. whole16 (value_at Float32 c.args.order c.args.bytes.now c.args.start k)) c.loop-i.i (search rules) (ap whole16 (sym (c.sample_at-x.ensures ∙ float_value c.args.order c.args.bytes.now c.args.start c.loop-i.i)) ∙ sym c.is_whole_16.ensures ∙ not-true _ c.if-not-is_whole_16.true-raw)
 
 pub loop-i-preserved : goal.loop-i-preserved
-loop-i-preserved c = (search rules, every_passed c.loop-i.i (λ k. whole16 (value_at Float32 c.args.order c.args.bytes.now c.args.start k)) c.loop-i.invariant.1 (ap whole16 (sym (c.sample_at-x.ensures ∙ float_value c.args.order c.args.bytes.now c.args.start c.loop-i.i)) ∙ sym c.is_whole_16.ensures ∙ not-false _ c.if-not-is_whole_16.false-raw))
+loop-i-preserved c = every_passed c.loop-i.i (λ k. whole16 (value_at Float32 c.args.order c.args.bytes.now c.args.start k)) c.loop-i.invariant (ap whole16 (sym (c.sample_at-x.ensures ∙ float_value c.args.order c.args.bytes.now c.args.start c.loop-i.i)) ∙ sym c.is_whole_16.ensures ∙ not-false _ c.if-not-is_whole_16.false-raw)
 
 pub returns : goal.returns
-returns c = every_done c.args.count (λ k. whole16 (value_at Float32 c.args.order c.args.bytes.now c.args.start k)) c.loop-i.i (search rules) (search rules) c.loop-i.invariant.1
+returns c = every_done c.args.count (λ k. whole16 (value_at Float32 c.args.order c.args.bytes.now c.args.start k)) c.loop-i.i (search rules) (search rules) c.loop-i.invariant

@@ -1,6 +1,5 @@
 use mathlib.Core.Path.{◌≡◌}
 use mathlib.Core.Bool.{true}
-use Prim.Native.Nat.{◌-◌, ◌≤◌}
 use Rattle.scene_tables.specs.Bytes.{every}
 use Rattle.pcm.specs.declared.sample.Encoding.TheVariants.{Float32}
 use Rattle.pcm.specs.Sample.{whole16}
@@ -8,7 +7,4 @@ use Rattle.sound_data.specs.Data.{value_at}
 use Rattle.sound_converter.proofs.values.floats_whole.Given as goal
 
 abbrev pub invariant-loop-i : goal.invariant-loop-i
-invariant-loop-i l = (l.i ≤ l.count) × (every l.i (λ k. whole16 (value_at Float32 l.order l.bytes l.start k)) ≡ true)
-
-abbrev pub decreases-loop-i : goal.decreases-loop-i
-decreases-loop-i l = l.count - l.i
+invariant-loop-i l = every l.i (λ k. whole16 (value_at Float32 l.order l.bytes l.start k)) ≡ true

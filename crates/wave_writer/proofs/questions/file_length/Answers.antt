@@ -2,6 +2,7 @@
 use mathlib.Core.Path.{sym, ap, ◌∙◌}
 use Prim.Native.Nat.{ℕ, ◌+◌}
 use native.Mathlib.Omega.{arith}
+use Rattle.std.specs.Prelude.{Some}
 use borrow.Author.Tests.{not-true, not-false}
 use Rattle.wave_writer.proofs.laws.Write.{length_no_channels, length_never, length_none, length_fits}
 use borrow.Author.Rules.{rules}
@@ -20,4 +21,4 @@ pub returns-then-head-size : goal.returns-then-head-size
 returns-then-head-size c = length_none c.args.head c.args.samples c.args.channels c.args.encoding c.requires (sym c.channels_ok.ensures ∙ not-false _ c.if-not-channels_ok.false-raw) (omega (arith, c.data_length-size.ensures))
 
 pub returns : goal.returns
-returns c = ap (λ (n : ℕ). c.args.head + n) c.data_length-size.ensures ∙ length_fits c.args.head c.args.samples c.args.channels c.args.encoding c.requires (sym c.channels_ok.ensures ∙ not-false _ c.if-not-channels_ok.false-raw) (omega (arith, c.data_length-size.ensures))
+returns c = ap (λ (n : ℕ). Some (c.args.head + n)) c.data_length-size.ensures ∙ length_fits c.args.head c.args.samples c.args.channels c.args.encoding c.requires (sym c.channels_ok.ensures ∙ not-false _ c.if-not-channels_ok.false-raw) (omega (arith, c.data_length-size.ensures))
