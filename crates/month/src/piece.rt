@@ -1,9 +1,8 @@
 // A piece of a mix: whole samples, f32 numbers, little-endian. Each loop has no branch in it, so that it runs on four samples at a time.
-ghost use Rattle.std.specs.Prelude.{◌≡◌, true, ◌+◌, ◌*◌, ◌/◌, ◌^◌, ◌≤◌, ◌<◌, max, eqb, length};
-ghost use Rattle.laws.specs.Count.{if_picked};
+ghost use Rattle.std.specs.Prelude.{◌≡◌, true, ◌+◌, ◌*◌, ◌/◌, ◌^◌, ◌≤◌, length};
 ghost use Rattle.byte_order.specs.declared.bytes.ByteOrder.TheVariants.{Little};
 ghost use Rattle.byte_order.specs.Bytes.{number_at};
-ghost use Rattle.month.specs.Month.{sample_in, magnitude, is_full, one_bits, square, all_in, full, squares, most_samples};
+ghost use Rattle.month.specs.Month.{sample_in, magnitude, square, all_in, full, squares, most_samples};
 ghost use Rattle.month.specs.Piece.{square_most, words_of, largest, first_of};
 
 use byte_order::{ByteOrder, number4_at};
@@ -19,21 +18,13 @@ fn magnitude_at(piece: &[u8], i: usize) -> u32
     number4_at(piece, 4 * i, ByteOrder::Little) % (1 << 31)
 }
 
-fn larger(a: u32, b: u32) -> u32
-    ensures { result ≡ max a b }
-{
-    if a < b { b } else { a }
-}
-
 pub fn largest_magnitude(piece: &[u8]) -> u32
     ensures { result ≡ largest (words_of piece.now) }
 {
     let n = piece.len() / 4;
-    let mut most = 0;
-    let mut i = 0;
-    while i < n {
-        most = larger(most, magnitude_at(piece, i));
-        i += 1;
+    let mut most: u32 = 0;
+    for i in 0..n {
+        most = most.max(magnitude_at(piece, i));
     }
     most
 }
@@ -43,20 +34,12 @@ pub fn first_of(piece: &[u8], m: u32) -> usize
     ensures { (result ≤ length piece.now / 4) × (result ≡ first_of m (words_of piece.now)) }
 {
     let n = piece.len() / 4;
-    let mut i = 0;
-    while i < n {
+    for i in 0..n {
         if magnitude_at(piece, i) == m {
             return i;
         }
-        i += 1;
     }
-    i
-}
-
-fn one_if_full(m: u32) -> u64
-    ensures { (result ≤ 1) × (result ≡ if_picked (eqb m one_bits)) }
-{
-    if m == ONE { 1 } else { 0 }
+    n
 }
 
 pub fn count_full(piece: &[u8]) -> u64
@@ -64,10 +47,8 @@ pub fn count_full(piece: &[u8]) -> u64
 {
     let n = piece.len() / 4;
     let mut count = 0;
-    let mut i = 0;
-    while i < n {
-        count += one_if_full(magnitude_at(piece, i));
-        i += 1;
+    for i in 0..n {
+        count += u64::from(magnitude_at(piece, i) == ONE);
     }
     count
 }
@@ -92,10 +73,8 @@ pub fn sum_squares(piece: &[u8]) -> u64
 {
     let n = piece.len() / 4;
     let mut sum = 0;
-    let mut i = 0;
-    while i < n {
+    for i in 0..n {
         sum += square_at(piece, i);
-        i += 1;
     }
     sum
 }

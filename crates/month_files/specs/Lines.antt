@@ -1,7 +1,10 @@
 -- Standard input: a line for each mix, its channels.
-use Rattle.std.specs.Prelude.{Bool, true, false, cond, ◌&&◌, List, [], ◌∷◌, ℕ, ◌+◌, ◌-◌, ◌*◌, min, eqb, leb}
+use Rattle.std.specs.Prelude.{Bool, true, false, cond, ◌&&◌, List, [], ◌∷◌, ℕ, ◌+◌, ◌-◌, ◌*◌, min, eqb, leb, Result}
+use Rattle.std.specs.declared.result.Result.TheVariants.{Ok, Err}
 use Rattle.month.specs.Month.{most_mixes}
 use Rattle.month_files.specs.declared.lines.Lines.{Lines}
+use Rattle.month_files.specs.declared.lines.LinesRefusal.{LinesRefusal}
+use Rattle.month_files.specs.declared.lines.LinesRefusal.TheVariants.{TooMany, Malformed}
 
 abbrev pub no_lines : Lines
 no_lines = record { feeds = 0; pending = false }
@@ -33,6 +36,15 @@ channels_of (d ∷ (f ∷ rest)) = (d - 48) ∷ channels_of rest
 -- one byte more than the lines of the most mixes have
 abbrev pub head_bytes : ℕ
 head_bytes = 2 * most_mixes + 1
+
+abbrev pub refusal_number : LinesRefusal → ℕ
+refusal_number TooMany = 24
+refusal_number Malformed = 26
+
+-- 0 where nothing is refused
+abbrev pub answer_number : Result (Unit {0}) LinesRefusal → ℕ
+answer_number (Ok _) = 0
+answer_number (Err refusal) = refusal_number refusal
 
 -- 24 is asked before 26
 unfoldable pub lines_number : Lines → List ℕ → ℕ

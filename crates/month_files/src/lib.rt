@@ -5,6 +5,6 @@ mod lines;
 mod print;
 mod report;
 
-pub use lines::{HEAD, Lines, channels_at, no_lines, questions, with_lines};
+pub use lines::{HEAD, Lines, LinesRefusal, channels_at, no_lines, questions, with_lines};
 pub use print::{NAME, TEXT, mix_name};
 pub use report::month_text;

@@ -1,7 +1,7 @@
 // Standard input: a line for each mix, its channels.
 ghost use Rattle.std.specs.Prelude.{◌≡◌, Bool, true, not, ◌&&◌, ◌+◌, ◌*◌, ◌≤◌, ◌<◌, min, eqb, leb, length, get_or};
 ghost use Rattle.month.specs.Month.{most_mixes};
-ghost use Rattle.month_files.specs.Lines.{no_lines, line_byte, lines_from, line_count, formed, channels_of, lines_number};
+ghost use Rattle.month_files.specs.Lines.{no_lines, line_byte, lines_from, line_count, formed, channels_of, refusal_number, answer_number, lines_number};
 
 use month::MOST_MIXES;
 
@@ -29,11 +29,7 @@ pub fn no_lines() -> Lines
 fn one_more(feeds: usize) -> usize
     ensures { result ≡ min (feeds + 1) (most_mixes + 1) }
 {
-    if feeds < MOST_MIXES {
-        feeds + 1
-    } else {
-        MOST_MIXES + 1
-    }
+    feeds.min(MOST_MIXES) + 1
 }
 
 fn with_line_byte(lines: Lines, byte: u8) -> Lines
@@ -56,10 +52,8 @@ pub fn with_lines(lines: Lines, piece: &[u8]) -> Lines
     ensures { result ≡ lines_from lines piece.now }
 {
     let mut all = lines;
-    let mut i = 0;
-    while i < piece.len() {
-        all = with_line_byte(all, piece[i]);
-        i += 1;
+    for &byte in piece {
+        all = with_line_byte(all, byte);
     }
     all
 }
@@ -67,32 +61,26 @@ pub fn with_lines(lines: Lines, piece: &[u8]) -> Lines
 fn is_digit(byte: u8) -> bool
     ensures { result ≡ (leb 49 byte && leb byte 56) }
 {
-    if byte < b'1' {
-        return false;
-    }
-    byte <= b'8'
+    b'1' <= byte && byte <= b'8'
 }
 
 fn is_line(first: u8, second: u8) -> bool
     ensures { result ≡ (leb 49 first && (leb first 56 && eqb second 10)) }
 {
-    if !is_digit(first) {
-        return false;
-    }
-    second == LINE_FEED
+    is_digit(first) && second == LINE_FEED
 }
 
 fn is_formed(text: &[u8]) -> bool
     ensures { result ≡ formed text.now }
 {
-    let mut i = 0;
-    while i + 1 < text.len() {
-        if !is_line(text[i], text[i + 1]) {
+    let mut rest = text;
+    while let [first, second, behind @ ..] = rest {
+        if !is_line(*first, *second) {
             return false;
         }
-        i += 2;
+        rest = behind;
     }
-    i == text.len()
+    rest.is_empty()
 }
 
 fn too_many(lines: Lines) -> bool
@@ -104,17 +92,32 @@ fn too_many(lines: Lines) -> bool
     MOST_MIXES < lines.feeds
 }
 
-// What the lines are refused by, 24 or 26, and 0 where they are not. Of a longer input the first bytes are enough for its text.
-pub fn questions(lines: Lines, text: &[u8]) -> u32
-    ensures { result ≡ lines_number lines text.now }
+// Why lines are refused.
+#[derive(Clone, Copy, PartialEq, Eq, Debug)]
+pub enum LinesRefusal {
+    TooMany = 24,
+    Malformed = 26,
+}
+
+impl From<LinesRefusal> for u32 {
+    ghost from_gives = { λ refusal n. n ≡ refusal_number refusal };
+
+    fn from(refusal: LinesRefusal) -> u32 {
+        refusal as u32
+    }
+}
+
+// Whether the lines are refused. Of a longer input the first bytes are enough for its text.
+pub fn questions(lines: Lines, text: &[u8]) -> Result<(), LinesRefusal>
+    ensures { answer_number result ≡ lines_number lines text.now }
 {
     if too_many(lines) {
-        return 24;
+        return Err(LinesRefusal::TooMany);
     }
     if is_formed(text) {
-        return 0;
+        return Ok(());
     }
-    26
+    Err(LinesRefusal::Malformed)
 }
 
 // The channels of a mix, counted from 0.

@@ -14,10 +14,8 @@ pub fn month_text(head: &[u8], lines: Lines, stream: Stream, text: &mut [u8; TEX
         → TextOf input files text.old result text.new }
     ensures within { (result ≤ length text.new) × (result ≡ length (take result text.new)) }
 {
-    let number = questions(lines, head);
-    let reading = stream.reading;
-    if number != 0 {
-        return put_refusal(text, number);
+    match questions(lines, head) {
+        Ok(()) => put_reading(text, stream.reading),
+        Err(refusal) => put_refusal(text, refusal.into()),
     }
-    put_reading(text, reading)
 }

@@ -50,10 +50,8 @@ fn with_bytes(stream: Stream, piece: &[u8]) -> Stream
     ensures { WithBytes stream piece.now result }
 {
     let mut all = stream;
-    let mut i = 0;
-    while i < piece.len() {
-        all = with_byte(all, piece[i]);
-        i += 1;
+    for &byte in piece {
+        all = with_byte(all, byte);
     }
     all
 }

@@ -23,45 +23,26 @@ const PIECE: usize = 65536;
 // Reads of a mix that find something: as many as one sample more than it may have has bytes.
 const MOST_READS: u64 = 4 * (MOST_SAMPLES + 1);
 
-// What is kept after one read, and how many bytes it gave.
-#[derive(Clone, Copy)]
-pub struct LinesStep {
-    pub lines: Lines,
-    pub count: usize,
-}
-
-#[derive(Clone, Copy)]
-pub struct MixStep {
-    pub stream: Stream,
-    pub count: usize,
-}
-
 // ---- standard input
 
-fn read_lines<I: Read>(input: &mut I, buffer: &mut [u8], lines: Lines) -> LinesStep
-    ensures { result.lines ≡ lines_from lines (take result.count buffer.new) }
+// Adds the lines of one read, and answers how many bytes it gave.
+fn read_lines<I: Read>(input: &mut I, buffer: &mut [u8], lines: &mut Lines) -> usize
+    ensures { lines.new ≡ lines_from lines.old (take result buffer.new) }
 {
     let n = first_bytes::read_full(input, buffer);
-    let all = month_files::with_lines(lines, &buffer[..n]);
-    LinesStep {
-        lines: all,
-        count: n,
-    }
+    *lines = month_files::with_lines(*lines, &buffer[..n]);
+    n
 }
 
-// The rest of standard input. A loop counts its turns down, from a number that no run uses up.
+// The rest of standard input, in as many reads as no run uses up.
 fn rest_lines<I: Read>(input: &mut I, buffer: &mut [u8], lines: Lines) -> Lines
     ensures { MoreLines lines result }
 {
     let mut all = lines;
-    let mut left = u64::MAX;
-    while left > 0 {
-        let step = read_lines(input, buffer, all);
-        all = step.lines;
-        if step.count == 0 {
-            return all;
+    for _ in 0..u64::MAX {
+        if read_lines(input, buffer, &mut all) == 0 {
+            break;
         }
-        left -= 1;
     }
     all
 }
@@ -80,28 +61,19 @@ fn all_lines<I: Read>(input: &mut I, head: &[u8], buffer: &mut [u8]) -> Lines
 
 // ---- mixes
 
-fn read_piece<F: Read>(file: &mut F, buffer: &mut [u8], stream: Stream) -> MixStep
-    requires { Reached stream }
-    ensures { WithBytes stream (take result.count buffer.new) result.stream }
+// Adds the bytes of one read, and answers how many it gave.
+fn read_piece<F: Read>(file: &mut F, buffer: &mut [u8], stream: &mut Stream) -> usize
+    requires { Reached stream.old }
+    ensures { WithBytes stream.old (take result buffer.new) stream.new }
 {
-    let n = match file.read(buffer) {
-        Ok(n) => n,
-        Err(_) => 0,
-    };
-    let next = month_reader::with_piece(stream, &buffer[..n]);
-    MixStep {
-        stream: next,
-        count: n,
-    }
+    let n = file.read(buffer).unwrap_or(0);
+    *stream = month_reader::with_piece(*stream, &buffer[..n]);
+    n
 }
 
 // A mix that is refused already need not be read on.
-fn is_over(stream: Stream, count: usize) -> bool {
-    let reading = stream.reading;
-    if reading.number == 26 {
-        return true;
-    }
-    count == 0
+fn is_refused(stream: Stream) -> bool {
+    stream.reading.number == 26
 }
 
 fn read_pieces<F: Read>(file: &mut F, buffer: &mut [u8], stream: Stream) -> Stream
@@ -109,14 +81,10 @@ fn read_pieces<F: Read>(file: &mut F, buffer: &mut [u8], stream: Stream) -> Stre
     ensures { Further stream result }
 {
     let mut all = stream;
-    let mut left = MOST_READS;
-    while left > 0 {
-        let step = read_piece(file, buffer, all);
-        all = step.stream;
-        if is_over(all, step.count) {
-            return all;
+    for _ in 0..MOST_READS {
+        if read_piece(file, buffer, &mut all) == 0 || is_refused(all) {
+            break;
         }
-        left -= 1;
     }
     all
 }
@@ -126,8 +94,7 @@ fn read_mix<R: Files>(rt: &R, mix: u64, buffer: &mut [u8], stream: Stream) -> St
     requires { Reached stream }
     ensures { Further stream result }
 {
-    let reading = stream.reading;
-    if reading.number == 26 {
+    if is_refused(stream) {
         return stream;
     }
     let mut name = [0u8; NAME];
@@ -163,11 +130,9 @@ fn read_mixes<R: Files + Eprint>(rt: &R, head: &[u8], buffer: &mut [u8], asked: 
 {
     let mixes = head.len() / 2;
     let mut all = month_reader::start();
-    let mut i = 0;
-    while i < mixes {
+    for i in 0..mixes {
         all = read_whole(rt, head, i, buffer, all);
-        i += 1;
-        show_progress(rt, asked, i as u64, mixes as u64);
+        show_progress(rt, asked, i as u64 + 1, mixes as u64);
     }
     all
 }
@@ -183,10 +148,10 @@ fn read_month<R: Files + Eprint>(
     requires { length head.now ≤ head_bytes }
     ensures { lines_number lines head.now ≡ 0 → Ended (channels_of head.now) result }
 {
-    if month_files::questions(lines, head) != 0 {
-        return month_reader::start();
+    match month_files::questions(lines, head) {
+        Ok(()) => read_mixes(rt, head, buffer, asked),
+        Err(_) => month_reader::start(),
     }
-    read_mixes(rt, head, buffer, asked)
 }
 
 // ---- the report
@@ -212,10 +177,7 @@ fn report<R: Files + Eprint, I: Read>(
 
 // Progress is told where standard error is a terminal, or where the program has an argument.
 fn progress_asked<R: Env>(rt: &R, is_terminal: bool) -> bool {
-    if is_terminal {
-        return true;
-    }
-    !matches!(rt.arg(1, &mut []), Err(FillError::NotPresent))
+    is_terminal || !matches!(rt.arg(1, &mut []), Err(FillError::NotPresent))
 }
 
 fn main(rt: HostRuntime) -> io::Result<()> {

@@ -10,12 +10,6 @@ use clock::Clock;
 // An update counts 1,001 ticks at most, which a u64 must hold.
 const LAST_TICK: u64 = 18446744073709550614;
 
-#[derive(Clone, Copy)]
-pub enum Moved {
-    To(Clock),
-    Refused,
-}
-
 fn is_within(x: f64, most: f64) -> bool
     ensures { result ≡ true → T (fits binary64 x) × T (le (whole 0) x) × T (le x most) }
 {
@@ -45,9 +39,12 @@ fn can_move(clock: Clock, dt: f64) -> bool
     time.fraction < 1.0
 }
 
-pub fn try_update(clock: Clock, dt: f64) -> Moved {
+// The clock after an update, where that may be asked.
+pub fn try_update(clock: Clock, dt: f64) -> Option<Clock> {
     if can_move(clock, dt) {
-        return Moved::To(clock.update(dt));
+        let mut moved = clock;
+        moved.update(dt);
+        return Some(moved);
     }
-    Moved::Refused
+    None
 }

@@ -1,15 +1,8 @@
 // Runs the list of vectors of the crate `decibels` (docs/VECTORS.md), and says how many rows were
-// checked and how many were wrong.
+// checked and how many were wrong. A row that cannot be read is wrong.
 #![tactic(auto)]
 
 use std::io;
-use test_replay::{Column, Column32};
-
-#[derive(Clone, Copy)]
-struct Tally {
-    checked: u64,
-    wrong: u64,
-}
 
 // Whether the routine answers this number, and leaves that amplitude or, on a refusal, the -1.0 that
 // no amplitude is.
@@ -26,44 +19,19 @@ fn answers(decibels: f32, number: u64, amplitude: u32) -> bool {
 }
 
 // A row `f32 number f32`.
-fn is_right(row: &[u8]) -> bool {
+fn is_right(row: &[u8]) -> Option<bool> {
     if row.len() != 20 {
-        return false;
+        return None;
     }
-    let Column32::Number(from) = test_replay::hex32_at(row, 0, 8) else {
-        return false;
-    };
-    let Column::Number(number) = test_replay::hex_at(row, 9, 2) else {
-        return false;
-    };
-    let Column32::Number(to) = test_replay::hex32_at(row, 12, 8) else {
-        return false;
-    };
-    answers(float_bits::f32_from_bits(from), number, to)
-}
-
-fn run_rows(text: &[u8]) -> Tally {
-    let mut checked: u64 = 0;
-    let mut wrong: u64 = 0;
-    let mut at = 0;
-    while at < text.len() {
-        let rest = &text[at..];
-        let length = test_replay::line_length(rest);
-        let line = &rest[0..length];
-        if test_replay::is_row(line) {
-            checked += 1;
-            if !is_right(line) {
-                wrong += 1;
-            }
-        }
-        at += length + 1;
-    }
-    Tally { checked, wrong }
+    let from = test_replay::hex32_at(row, 0, 8)?;
+    let number = test_replay::hex_at(row, 9, 2)?;
+    let to = test_replay::hex32_at(row, 12, 8)?;
+    Some(answers(float_bits::f32_from_bits(from), number, to))
 }
 
 fn main(rt: HostRuntime) -> io::Result<()> {
-    let mut buffer = test_replay::short_buffer();
-    let n = test_replay::read(&rt, b"amplitude.txt", &mut buffer);
-    let tally = run_rows(&buffer[..n]);
-    test_replay::report(&rt, b"amplitude", tally.checked, tally.wrong)
+    let mut buffer = test_replay::buffer::<204800>();
+    test_replay::run_list(&rt, b"amplitude", b"amplitude.txt", &mut buffer, |row| {
+        Some(is_right(row).unwrap_or(false))
+    })
 }

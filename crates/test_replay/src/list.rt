@@ -1,28 +1,15 @@
-// A list's file, and what is said of it.
-ghost use Rattle.std.specs.Prelude.{◌≡◌, ◌≤◌, length, take};
+// A list's file, its rows, and what is said of it.
+ghost use Rattle.std.specs.Prelude.{◌≡◌, ◌≤◌, ◌<◌, length, take, IfSome};
 
+use crate::text::{is_row, line_length};
 use std::io;
 use std::rt::Files;
 
-// Room for a list. The `ensures` gives only the length, which lending the array as a slice needs. The
-// prover's time goes by the length, so a program takes no more than it needs.
-pub fn short_buffer() -> [u8; 204800]
-    ensures { 204800 ≡ length result }
+// Room for a list or for cases. The `ensures` gives only the length, which lending the array as a slice needs.
+pub fn buffer<const N: usize>() -> [u8; N]
+    ensures { N ≡ length result }
 {
-    [0; 204800]
-}
-
-pub fn buffer() -> [u8; 524288]
-    ensures { 524288 ≡ length result }
-{
-    [0; 524288]
-}
-
-// Room for the cases of a program that has smaller ones.
-pub fn case_buffer() -> [u8; 65536]
-    ensures { 65536 ≡ length result }
-{
-    [0; 65536]
+    [0; N]
 }
 
 // Reads a list to the start of the buffer, and answers how many bytes it has. A file that does not
@@ -42,6 +29,58 @@ pub fn read<R: Files + Eprint>(rt: &R, path: &[u8], buffer: &mut [u8]) -> usize
             0
         }
     }
+}
+
+// How many rows were checked, and how many of them were wrong.
+#[derive(Clone, Copy, PartialEq, Eq, Debug)]
+pub struct Tally {
+    pub checked: u64,
+    pub wrong: u64,
+}
+
+// The first line of a text, and what stands behind it.
+fn first_line(text: &[u8]) -> Option<(&[u8], &[u8])>
+    ensures { IfSome result (λ p. length p.1.now < length text.now) }
+{
+    if text.is_empty() {
+        return None;
+    }
+    let (line, rest) = text.split_at(line_length(text));
+    Some((line, rest.get(1..).unwrap_or(&[])))
+}
+
+// Asks `answer` of each row. It says whether the row is right, or nothing of one that only prepares others.
+pub fn count_rows<F: FnMut(&[u8]) -> Option<bool>>(text: &[u8], mut answer: F) -> Tally
+    requires { F.IsAlwaysCallable answer }
+{
+    let mut checked = 0;
+    let mut wrong = 0;
+    let mut rest = text;
+    while let Some((line, behind)) = first_line(rest) {
+        rest = behind;
+        if is_row(line) {
+            if let Some(right) = answer(line) {
+                checked += 1;
+                wrong += u64::from(!right);
+            }
+        }
+    }
+    Tally { checked, wrong }
+}
+
+// Reads a list into the buffer, asks `answer` of each row, and reports how many were wrong.
+pub fn run_list<R: Files + Eprint + Print, F: FnMut(&[u8]) -> Option<bool>>(
+    rt: &R,
+    name: &[u8],
+    path: &[u8],
+    buffer: &mut [u8],
+    answer: F,
+) -> io::Result<()>
+    requires { F.IsAlwaysCallable answer }
+{
+    let n = read(rt, path, buffer);
+    let tally = count_rows(&buffer[..n], answer);
+    report(rt, name, tally.checked, tally.wrong)
 }
 
 // One line: `NAME CHECKED checked WRONG wrong`.

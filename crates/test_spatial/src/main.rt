@@ -1,5 +1,5 @@
 // Runs the list of vectors of the crate `spatial` (docs/VECTORS.md), and says how many rows were
-// checked and how many were wrong.
+// checked and how many were wrong. A row that cannot be read is wrong.
 #![tactic(auto)]
 
 ghost use Rattle.std.specs.Prelude.{◌≡◌, true, ◌+◌, ◌≤◌, length};
@@ -9,13 +9,6 @@ ghost use Rattle.spatial.specs.Spatial.{PositionIn, DistancesIn};
 
 use spatial::{Distances, Position};
 use std::io;
-use test_replay::Column32;
-
-#[derive(Clone, Copy)]
-struct Tally {
-    checked: u64,
-    wrong: u64,
-}
 
 fn is_coordinate(x: f32) -> bool
     ensures { result ≡ true → InRange binary32 1000 1000 x }
@@ -70,38 +63,32 @@ fn has_level(listener: Position, position: Position, distances: Distances, level
     false
 }
 
-// A NaN, which is in no range, where there is no number.
-fn number_at(row: &[u8], at: usize) -> f32
+fn number_at(row: &[u8], at: usize) -> Option<f32>
     requires { at + 8 ≤ length row.now }
 {
-    let Column32::Number(bits) = test_replay::hex32_at(row, at, 8) else {
-        return 0.0 / 0.0;
-    };
-    float_bits::f32_from_bits(bits)
+    Some(float_bits::f32_from_bits(test_replay::hex32_at(row, at, 8)?))
 }
 
-fn position_at(row: &[u8], at: usize) -> Position
+fn position_at(row: &[u8], at: usize) -> Option<Position>
     requires { at + 26 ≤ length row.now }
 {
-    let x = number_at(row, at);
-    let y = number_at(row, at + 9);
-    let z = number_at(row, at + 18);
-    Position { x, y, z }
+    let x = number_at(row, at)?;
+    let y = number_at(row, at + 9)?;
+    let z = number_at(row, at + 18)?;
+    Some(Position { x, y, z })
 }
 
 // A row `x y z x y z near far level`: the listener's position and the track's, in bits.
-fn is_right(row: &[u8]) -> bool {
+fn is_right(row: &[u8]) -> Option<bool> {
     if row.len() != 80 {
-        return false;
+        return None;
     }
-    let listener = position_at(row, 0);
-    let position = position_at(row, 27);
-    let min_distance = number_at(row, 54);
-    let max_distance = number_at(row, 63);
-    let Column32::Number(level) = test_replay::hex32_at(row, 72, 8) else {
-        return false;
-    };
-    has_level(
+    let listener = position_at(row, 0)?;
+    let position = position_at(row, 27)?;
+    let min_distance = number_at(row, 54)?;
+    let max_distance = number_at(row, 63)?;
+    let level = test_replay::hex32_at(row, 72, 8)?;
+    Some(has_level(
         listener,
         position,
         Distances {
@@ -109,31 +96,16 @@ fn is_right(row: &[u8]) -> bool {
             max_distance,
         },
         level,
-    )
-}
-
-fn run_rows(text: &[u8]) -> Tally {
-    let mut checked: u64 = 0;
-    let mut wrong: u64 = 0;
-    let mut at = 0;
-    while at < text.len() {
-        let rest = &text[at..];
-        let length = test_replay::line_length(rest);
-        let line = &rest[0..length];
-        if test_replay::is_row(line) {
-            checked += 1;
-            if !is_right(line) {
-                wrong += 1;
-            }
-        }
-        at += length + 1;
-    }
-    Tally { checked, wrong }
+    ))
 }
 
 fn main(rt: HostRuntime) -> io::Result<()> {
-    let mut buffer = test_replay::short_buffer();
-    let n = test_replay::read(&rt, b"attenuation.txt", &mut buffer);
-    let tally = run_rows(&buffer[..n]);
-    test_replay::report(&rt, b"attenuation", tally.checked, tally.wrong)
+    let mut buffer = test_replay::buffer::<204800>();
+    test_replay::run_list(
+        &rt,
+        b"attenuation",
+        b"attenuation.txt",
+        &mut buffer,
+        |row| { Some(is_right(row).unwrap_or(false)) },
+    )
 }

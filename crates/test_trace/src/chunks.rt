@@ -1,10 +1,9 @@
 // The columns that every update has: its chunk, and the levels after it.
-ghost use Rattle.std.specs.Prelude.{◌≡◌, true, ◌≤◌};
+ghost use Rattle.std.specs.Prelude.{◌≡◌, true, ◌≤◌, IfSome};
 ghost use Rattle.rounding.specs.Duration.{InAnHour};
 
 use clock::Clocks;
 use decibels::Decibels;
-use test_replay::{Column, Column32};
 
 // How many clocks are there, the seconds, and where in the chunk the level between is read.
 #[derive(Clone, Copy)]
@@ -14,27 +13,15 @@ pub struct Chunk {
     pub amount: f64,
 }
 
-#[derive(Clone, Copy)]
-pub enum ChunkRow {
-    Chunk(Chunk),
-    Malformed,
-}
-
 // Columns `count dt amount`.
-pub fn read_chunk(columns: &[u8]) -> ChunkRow {
+pub fn read_chunk(columns: &[u8]) -> Option<Chunk> {
     if columns.len() != 35 {
-        return ChunkRow::Malformed;
+        return None;
     }
-    let Column::Number(count) = test_replay::hex(&columns[0..1]) else {
-        return ChunkRow::Malformed;
-    };
-    let Column::Number(dt) = test_replay::hex(&columns[2..18]) else {
-        return ChunkRow::Malformed;
-    };
-    let Column::Number(amount) = test_replay::hex(&columns[19..35]) else {
-        return ChunkRow::Malformed;
-    };
-    ChunkRow::Chunk(Chunk {
+    let count = test_replay::hex(&columns[0..1])?;
+    let dt = test_replay::hex(&columns[2..18])?;
+    let amount = test_replay::hex(&columns[19..35])?;
+    Some(Chunk {
         count: count as usize,
         dt: float_bits::f64_from_bits(dt),
         amount: float_bits::f64_from_bits(amount),
@@ -45,48 +32,36 @@ pub fn read_chunk(columns: &[u8]) -> ChunkRow {
 pub fn in_an_hour(dt: f64) -> bool
     ensures { result ≡ true → InAnHour dt }
 {
-    if dt >= 0.0 {
-        return dt <= 3600.0;
-    }
-    false
+    dt >= 0.0 && dt <= 3600.0
 }
 
-// The first `count` of the clocks are there.
-pub fn counted(all: Clocks, count: usize) -> Clocks {
-    let clocks = all.clocks;
-    Clocks { clocks, count }
-}
-
-pub fn flag(yes: bool) -> u64
-    ensures { result ≤ 1 }
+// The first `count` of the clocks are there, of eight at most.
+pub fn counted(all: Clocks, count: usize) -> Option<Clocks>
+    ensures { IfSome result (λ there. there.count ≤ 8) }
 {
-    if yes { 1 } else { 0 }
+    if 8 < count {
+        return None;
+    }
+    let clocks = all.clocks;
+    Some(Clocks { clocks, count })
 }
 
-// Columns `value previous interpolated`.
+// Columns `value previous interpolated`, and whether the levels are those.
 pub fn are_levels(
     value: Decibels,
     previous: Decibels,
     interpolated: Decibels,
     columns: &[u8],
-) -> bool {
+) -> Option<bool> {
     if columns.len() != 26 {
-        return false;
+        return None;
     }
-    let Column32::Number(after) = test_replay::hex32(&columns[0..8]) else {
-        return false;
-    };
-    let Column32::Number(before) = test_replay::hex32(&columns[9..17]) else {
-        return false;
-    };
-    let Column32::Number(between) = test_replay::hex32(&columns[18..26]) else {
-        return false;
-    };
-    if !float_bits::is_f32(value.0, after) {
-        return false;
-    }
-    if !float_bits::is_f32(previous.0, before) {
-        return false;
-    }
-    float_bits::is_f32(interpolated.0, between)
+    let after = test_replay::hex32(&columns[0..8])?;
+    let before = test_replay::hex32(&columns[9..17])?;
+    let between = test_replay::hex32(&columns[18..26])?;
+    Some(
+        float_bits::is_f32(value.0, after)
+            && float_bits::is_f32(previous.0, before)
+            && float_bits::is_f32(interpolated.0, between),
+    )
 }

@@ -1,18 +1,11 @@
 // The clocks of a list: rows put them in place one by one.
 use clock::{Clock, ClockSpeed, ClockState, Clocks};
-use test_replay::Column;
 
 // A clock, and its place among eight.
 #[derive(Clone, Copy)]
-pub struct PlacedClock {
-    pub place: usize,
-    pub clock: Clock,
-}
-
-#[derive(Clone, Copy)]
-pub enum ClockRow {
-    Clock(PlacedClock),
-    Malformed,
+struct PlacedClock {
+    place: usize,
+    clock: Clock,
 }
 
 // Eight clocks that have not started, of which none is there.
@@ -42,43 +35,29 @@ fn standing(ticking: u64, started: u64, ticks: u64, fraction: f64) -> Clock {
 }
 
 // Columns `place ticking started ticks fraction`.
-pub fn read_clock(columns: &[u8]) -> ClockRow {
+fn read_clock(columns: &[u8]) -> Option<PlacedClock> {
     if columns.len() != 39 {
-        return ClockRow::Malformed;
+        return None;
     }
-    let Column::Number(place) = test_replay::hex(&columns[0..1]) else {
-        return ClockRow::Malformed;
-    };
-    let Column::Number(ticking) = test_replay::hex(&columns[2..3]) else {
-        return ClockRow::Malformed;
-    };
-    let Column::Number(started) = test_replay::hex(&columns[4..5]) else {
-        return ClockRow::Malformed;
-    };
-    let Column::Number(ticks) = test_replay::hex(&columns[6..22]) else {
-        return ClockRow::Malformed;
-    };
-    let Column::Number(fraction) = test_replay::hex(&columns[23..39]) else {
-        return ClockRow::Malformed;
-    };
+    let place = test_replay::hex(&columns[0..1])? as usize;
+    let ticking = test_replay::hex(&columns[2..3])?;
+    let started = test_replay::hex(&columns[4..5])?;
+    let ticks = test_replay::hex(&columns[6..22])?;
+    let fraction = test_replay::hex(&columns[23..39])?;
     if 8 <= place {
-        return ClockRow::Malformed;
+        return None;
     }
-    ClockRow::Clock(PlacedClock {
-        place: place as usize,
+    Some(PlacedClock {
+        place,
         clock: standing(ticking, started, ticks, float_bits::f64_from_bits(fraction)),
     })
 }
 
-pub fn put_clock(all: Clocks, placed: PlacedClock) -> Clocks {
-    let mut clocks = all.clocks;
-    let place = placed.place;
-    let clock = placed.clock;
-    if place < 8 {
-        clocks[place] = clock;
+// Puts the clock of these columns into its place.
+pub fn put_clock(clocks: &mut Clocks, columns: &[u8]) -> Option<()> {
+    let placed = read_clock(columns)?;
+    if let Some(clock) = clocks.clocks.get_mut(placed.place) {
+        *clock = placed.clock;
     }
-    Clocks {
-        clocks,
-        count: all.count,
-    }
+    Some(())
 }

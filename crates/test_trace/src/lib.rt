@@ -5,7 +5,9 @@
 mod chunks;
 mod clocks;
 mod orders;
+mod rows;
 
-pub use chunks::{Chunk, ChunkRow, are_levels, counted, flag, in_an_hour, read_chunk};
-pub use clocks::{ClockRow, PlacedClock, no_clocks, put_clock, read_clock};
-pub use orders::{Order, OrderRow, easing, read_order};
+pub use chunks::{Chunk, are_levels, counted, in_an_hour, read_chunk};
+pub use clocks::{no_clocks, put_clock};
+pub use orders::{Order, easing, read_order};
+pub use rows::{asked, prepared};

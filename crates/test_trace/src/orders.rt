@@ -1,6 +1,5 @@
 // An order's columns: when it starts, and the motion that it starts.
 use clock::ClockTime;
-use test_replay::{Column, Column32};
 use tween::{Easing, StartTime, Tween};
 
 // The tween waits for the start. A resume waits by itself, and takes the tween at once.
@@ -9,12 +8,6 @@ pub struct Order {
     pub start: StartTime,
     pub duration: u32,
     pub easing: Easing,
-}
-
-#[derive(Clone, Copy)]
-pub enum OrderRow {
-    Order(Order),
-    Malformed,
 }
 
 impl Order {
@@ -52,23 +45,15 @@ fn start_time(kind: u64, clock: usize, number: u64, fraction: f64) -> StartTime 
 }
 
 // Columns `start clock number fraction`.
-fn read_start(columns: &[u8]) -> StartRow {
+fn read_start(columns: &[u8]) -> Option<StartTime> {
     if columns.len() != 37 {
-        return StartRow::Malformed;
+        return None;
     }
-    let Column::Number(kind) = test_replay::hex(&columns[0..1]) else {
-        return StartRow::Malformed;
-    };
-    let Column::Number(clock) = test_replay::hex(&columns[2..3]) else {
-        return StartRow::Malformed;
-    };
-    let Column::Number(number) = test_replay::hex(&columns[4..20]) else {
-        return StartRow::Malformed;
-    };
-    let Column::Number(fraction) = test_replay::hex(&columns[21..37]) else {
-        return StartRow::Malformed;
-    };
-    StartRow::Start(start_time(
+    let kind = test_replay::hex(&columns[0..1])?;
+    let clock = test_replay::hex(&columns[2..3])?;
+    let number = test_replay::hex(&columns[4..20])?;
+    let fraction = test_replay::hex(&columns[21..37])?;
+    Some(start_time(
         kind,
         clock as usize,
         number,
@@ -76,30 +61,16 @@ fn read_start(columns: &[u8]) -> StartRow {
     ))
 }
 
-#[derive(Clone, Copy)]
-enum StartRow {
-    Start(StartTime),
-    Malformed,
-}
-
 // Columns `start clock number fraction milliseconds easing power`.
-pub fn read_order(columns: &[u8]) -> OrderRow {
+pub fn read_order(columns: &[u8]) -> Option<Order> {
     if columns.len() != 50 {
-        return OrderRow::Malformed;
+        return None;
     }
-    let StartRow::Start(start) = read_start(&columns[0..37]) else {
-        return OrderRow::Malformed;
-    };
-    let Column32::Number(duration) = test_replay::hex32(&columns[38..46]) else {
-        return OrderRow::Malformed;
-    };
-    let Column::Number(kind) = test_replay::hex(&columns[47..48]) else {
-        return OrderRow::Malformed;
-    };
-    let Column32::Number(power) = test_replay::hex32(&columns[49..50]) else {
-        return OrderRow::Malformed;
-    };
-    OrderRow::Order(Order {
+    let start = read_start(&columns[0..37])?;
+    let duration = test_replay::hex32(&columns[38..46])?;
+    let kind = test_replay::hex(&columns[47..48])?;
+    let power = test_replay::hex32(&columns[49..50])?;
+    Some(Order {
         start,
         duration,
         easing: easing(kind, power),

@@ -3,36 +3,38 @@
 // bytes follow; the length of the buffer to fill; and for a file to write its rate, channels and bits.
 #![tactic(auto)]
 
-ghost use Rattle.std.specs.Prelude.{◌≡◌, ◌+◌, ◌≤◌, length, IfOk};
+ghost use Rattle.std.specs.Prelude.{◌<◌, length, IfSome};
 
 use std::io;
 
-const HEADER: usize = 24;
-
-fn print<R: Print>(rt: &R, number: u32) -> io::Result<()> {
-    print!(rt; "{number} ")
+#[derive(Clone, Copy)]
+struct Case<'a> {
+    is_read: bool,
+    bytes: &'a [u8],
+    room: usize,
+    rate: u32,
+    channels: u32,
+    bits: u32,
 }
 
-fn print_samples<R: Print>(rt: &R, samples: &[f32]) -> io::Result<()> {
-    let mut i = 0;
-    while i < samples.len() {
-        print(rt, float_bits::f32_bits(samples[i]))?;
-        i += 1;
-    }
-    println!(rt; "")
-}
-
-fn print_byte<R: Print>(rt: &R, byte: u8) -> io::Result<()> {
-    print(rt, byte as u32)
-}
-
-fn print_bytes<R: Print>(rt: &R, bytes: &[u8]) -> io::Result<()> {
-    let mut i = 0;
-    while i < bytes.len() {
-        print_byte(rt, bytes[i])?;
-        i += 1;
-    }
-    println!(rt; "")
+fn first_case(input: &[u8]) -> Option<(Case<'_>, &[u8])>
+    ensures { IfSome result (λ p. length p.1.now < length input.now) }
+{
+    let ([kind, length, room, rate, channels, bits], rest) = test_replay::first_numbers::<6>(
+        input,
+    )?;
+    let (bytes, rest) = rest.split_at_checked(length as usize)?;
+    Some((
+        Case {
+            is_read: kind == 0,
+            bytes,
+            room: room as usize,
+            rate,
+            channels,
+            bits,
+        },
+        rest,
+    ))
 }
 
 fn answer_info<R: Print>(rt: &R, file: &[u8]) -> io::Result<()> {
@@ -40,112 +42,73 @@ fn answer_info<R: Print>(rt: &R, file: &[u8]) -> io::Result<()> {
     let mut channels = 2;
     let mut bits = 3;
     let mut frames = 4;
-    print(
-        rt,
-        wave::info(file, &mut rate, &mut channels, &mut bits, &mut frames),
-    )?;
-    print(rt, rate)?;
-    print(rt, channels)?;
-    print(rt, bits)?;
-    print(rt, frames)
+    let number = wave::number_of(wave::info(
+        file,
+        &mut rate,
+        &mut channels,
+        &mut bits,
+        &mut frames,
+    ));
+    print!(rt; "{number} {rate} {channels} {bits} {frames} ")
 }
 
 fn answer_read<R: Print>(rt: &R, file: &[u8], samples: &mut [f32]) -> io::Result<()> {
     let mut rate = 5;
     answer_info(rt, file)?;
-    print(rt, wave::read(file, samples, &mut rate))?;
-    print(rt, rate)?;
-    print_samples(rt, samples)
+    let number = wave::number_of(wave::read(file, samples, &mut rate));
+    print!(rt; "{number} {rate} ")?;
+    test_replay::print_samples(rt, samples)
 }
 
 // The buffer is cut here, where its contents are not written out.
-fn read_into<R: Print>(rt: &R, file: &[u8], samples: &mut [f32], room: usize) -> io::Result<()> {
-    let n = test_replay::least(room, samples.len());
-    answer_read(rt, file, &mut samples[0..n])
+fn read_into<R: Print>(rt: &R, case: Case<'_>, samples: &mut [f32]) -> io::Result<()> {
+    let n = case.room.min(samples.len());
+    answer_read(rt, case.bytes, &mut samples[0..n])
 }
 
-fn read_case<R: Print>(rt: &R, file: &[u8], room: usize) -> io::Result<()> {
+fn read_case<R: Print>(rt: &R, case: Case<'_>) -> io::Result<()> {
     let mut samples = [0.25f32; 4096];
-    read_into(rt, file, &mut samples, room)
+    read_into(rt, case, &mut samples)
 }
 
 fn answer_write<R: Print>(
     rt: &R,
-    rate: u32,
-    channels: u32,
-    bits: u32,
+    case: Case<'_>,
     samples: &[f32],
     file: &mut [u8],
 ) -> io::Result<()> {
-    print(rt, wave::write(rate, channels, bits, samples, file))?;
-    print_bytes(rt, file)
+    let number = wave::number_of(wave::write(case.rate, case.channels, case.bits, samples, file));
+    print!(rt; "{number} ")?;
+    test_replay::print_bytes(rt, file)
 }
 
 fn write_into<R: Print>(
     rt: &R,
-    rate: u32,
-    channels: u32,
-    bits: u32,
+    case: Case<'_>,
     samples: &[f32],
     file: &mut [u8],
-    room: usize,
 ) -> io::Result<()> {
-    let m = test_replay::least(room, file.len());
-    answer_write(rt, rate, channels, bits, samples, &mut file[0..m])
+    let m = case.room.min(file.len());
+    answer_write(rt, case, samples, &mut file[0..m])
 }
 
-fn write_case<R: Print>(
-    rt: &R,
-    rate: u32,
-    channels: u32,
-    bits: u32,
-    bytes: &[u8],
-    room: usize,
-) -> io::Result<()> {
+fn write_case<R: Print>(rt: &R, case: Case<'_>) -> io::Result<()> {
     let mut samples = [0.0f32; 4096];
-    let n = test_replay::samples_of(bytes, &mut samples);
+    let n = test_replay::samples_of(case.bytes, &mut samples);
     let mut file = [170u8; 16384];
-    write_into(rt, rate, channels, bits, &samples[..n], &mut file, room)
+    write_into(rt, case, &samples[..n], &mut file)
 }
 
-// Answers the case that the input begins with, and says how many bytes it has: none where it is no
-// whole case.
-fn answer_case<R: Print>(rt: &R, input: &[u8]) -> io::Result<usize>
-    ensures { IfOk result (λ n. n ≤ length input.now) }
-{
-    if input.len() < HEADER {
-        return Ok(0);
+fn answer_case<R: Print>(rt: &R, case: Case<'_>) -> io::Result<()> {
+    if case.is_read {
+        read_case(rt, case)
+    } else {
+        write_case(rt, case)
     }
-    let end = HEADER + float_bits::word(input, 4) as usize;
-    if input.len() < end {
-        return Ok(0);
-    }
-    let room = float_bits::word(input, 8) as usize;
-    if float_bits::word(input, 0) == 0 {
-        read_case(rt, &input[HEADER..end], room)?;
-        return Ok(end);
-    }
-    let rate = float_bits::word(input, 12);
-    let channels = float_bits::word(input, 16);
-    let bits = float_bits::word(input, 20);
-    write_case(rt, rate, channels, bits, &input[HEADER..end], room)?;
-    Ok(end)
-}
-
-fn answer_cases<R: Print>(rt: &R, input: &[u8]) -> io::Result<()> {
-    let mut at = 0;
-    while at < input.len() {
-        let length = answer_case(rt, &input[at..])?;
-        if length == 0 {
-            return Ok(());
-        }
-        at += length;
-    }
-    Ok(())
 }
 
 fn main(rt: HostRuntime) -> io::Result<()> {
-    let mut buffer = test_replay::case_buffer();
+    let mut buffer = test_replay::buffer::<65536>();
     let n = first_bytes::read_full(&mut rt.stdin(), &mut buffer);
-    answer_cases(&rt, &buffer[..n])
+    test_replay::for_each_case(&buffer[..n], first_case, |case| answer_case(&rt, case))
 }

@@ -6,10 +6,10 @@ use Prim.Native.Nat.{ℕ, zero, suc, ◌+◌, ◌-◌, ◌*◌, ◌≤◌, ◌<�
 use native.Mathlib.Numerals.{add-one}
 use native.Mathlib.Omega.{arith}
 use native.Mathlib.Decide.{dec_le}
-use borrow.Author.Tests.{leb-true, eqb-true, eqb-false, le-leb, lt-leb, lt-ltb, le-ltb}
+use borrow.Author.Tests.{leb-true, ne_eqb, le-leb, lt-leb, lt-ltb, le-ltb}
 use lib.Dec.{eqb, leb, ltb}
-use lib.ListN.{length, drop, get_or, drop_of_length-le}
-use lib.Seq.{drop-cons}
+use lib.ListN.{length, take, drop, get_or, drop_of_length-le}
+use lib.Seq.{drop-cons, take_all}
 use Rattle.month.specs.Month.{most_mixes}
 use Rattle.laws.proofs.laws.Choice.{and_left, and_right}
 use Rattle.month_files.specs.declared.lines.Lines.{Lines}
@@ -42,44 +42,24 @@ neither true true false r e = refl
 neither true false c r e = refl
 neither false b c r e = refl
 
-module _ (text : List ℕ) (i : ℕ) (h : i + 1 < length text) where
-  abbrev d : ℕ
-  d = get_or text i 0
+-- one line more
+pub formed_next : (l : List ℕ) {b : Bool} → 2 ≤ length l → b ≡ (leb 49 (get_or l 0 0) && (leb (get_or l 0 0) 56 && eqb (get_or l 1 0) 10)) → b ≡ true → formed (take (length l - 2) (drop 2 l)) ≡ formed l
+unfolding formed
+formed_next [] h e t = absurd (omega arith)
+formed_next (d ∷ []) h e t = absurd (omega arith)
+formed_next (d ∷ (f ∷ rest)) h e t = ap formed (take_all (length (d ∷ (f ∷ rest)) - 2) rest (omega arith)) ∙ sym (both (leb 49 d) (leb d 56) (eqb f 10) (formed rest) (sym e ∙ t))
 
-  abbrev f : ℕ
-  f = get_or text (i + 1) 0
+pub formed_stops : (l : List ℕ) {b : Bool} → 2 ≤ length l → b ≡ (leb 49 (get_or l 0 0) && (leb (get_or l 0 0) 56 && eqb (get_or l 1 0) 10)) → b ≡ false → false ≡ formed l
+unfolding formed
+formed_stops [] h e t = absurd (omega arith)
+formed_stops (d ∷ []) h e t = absurd (omega arith)
+formed_stops (d ∷ (f ∷ rest)) h e t = sym (neither (leb 49 d) (leb d 56) (eqb f 10) (formed rest) (sym e ∙ t))
 
-  two : formed (drop i text) ≡ leb 49 d && (leb d 56 && (eqb f 10 && formed (drop (i + 2) text)))
-  unfolding formed
-  two =
-      ap formed
-      (next text i (omega arith)
-      ∙ ap (λ (l : List ℕ). d ∷ l) (next text (i + 1) h ∙ ap (λ (n : ℕ). f ∷ drop n text) (step i)))
-    where
-      step : (i : ℕ) → i + 1 + 1 ≡ i + 2
-      step i = omega arith
-
-  pub formed_next : {b : Bool} → b ≡ (leb 49 d && (leb d 56 && eqb f 10)) → b ≡ true → formed (drop i text) ≡ formed text → formed (drop (i + 2) text) ≡ formed text
-  formed_next e t g = sym (both (leb 49 d) (leb d 56) (eqb f 10) (formed (drop (i + 2) text)) (sym e ∙ t)) ∙ sym two ∙ g
-
-  pub formed_stops : {b : Bool} → b ≡ (leb 49 d && (leb d 56 && eqb f 10)) → b ≡ false → formed (drop i text) ≡ formed text → false ≡ formed text
-  formed_stops e t g = sym (neither (leb 49 d) (leb d 56) (eqb f 10) (formed (drop (i + 2) text)) (sym e ∙ t)) ∙ sym two ∙ g
-
-pub formed_end : (text : List ℕ) (i : ℕ) → i ≤ length text → length text ≤ i + 1 → formed (drop i text) ≡ formed text → eqb i (length text) ≡ formed text
-formed_end text i h k g = go (eqb i (length text)) refl
-  where
-    last : (l : List ℕ) → length l ≡ 0 → formed l ≡ true
-    last [] e = unfold formed in refl
-    last (x ∷ l) e = absurd (omega arith)
-
-    single : (x : ℕ) → formed (x ∷ []) ≡ false
-    single x = unfold formed in refl
-
-    go : (b : Bool) → eqb i (length text) ≡ b → eqb i (length text) ≡ formed text
-    go true e = e ∙ sym (ap formed (drop_of_length-le text {i = i} (omega (arith, eqb-true i (length text) e))) ∙ last [] refl) ∙ g
-    go false e =
-        let l : i < length text = omega (arith, eqb-false i (length text) e) in
-        e ∙ sym (ap formed (next text i l ∙ ap (λ (r : List ℕ). get_or text i 0 ∷ r) (drop_of_length-le text {i = i + 1} (omega arith))) ∙ single (get_or text i 0)) ∙ g
+pub formed_end : (l : List ℕ) {b : Bool} → length l < 2 → b ≡ eqb (length l) 0 → b ≡ formed l
+unfolding formed
+formed_end [] h e = e
+formed_end (d ∷ []) h e = e ∙ ne_eqb (length (d ∷ [])) 0 (λ z. omega arith)
+formed_end (d ∷ (f ∷ rest)) h e = absurd (omega arith)
 
 -- ---- what they say
 

@@ -1,20 +1,18 @@
 -- `read_pieces` meets its contract: all that was read is of this mix. Assumes nothing.
-use mathlib.Core.Path.{refl}
 use Rattle.month_files.proofs.laws.Read.{further_none, further_then, still_reached}
-use borrow.Author.Rules.{rules}
 use Rattle.month_report.proofs.read_pieces.Goals as goal
 
-pub loop-left-init : goal.loop-left-init
-loop-left-init g c = (refl, further_none _)
+pub loop-init : goal.loop-init
+loop-init g c = further_none _
 
-pub read_piece-step-requires : goal.read_piece-step-requires
-read_piece-step-requires g c = still_reached c.args.stream c.loop-left.all c.requires c.loop-left.invariant.1
+pub read_piece-requires : goal.read_piece-requires
+read_piece-requires g c = still_reached c.args.stream c.loop.all c.requires c.loop.invariant
 
-pub returns-then-is_over : goal.returns-then-is_over
-returns-then-is_over g c = further_then c.args.stream c.loop-left.all c.read_piece-step.result.stream _ c.loop-left.invariant.1 c.read_piece-step.ensures
+pub returns-then-read_piece-eq0 : goal.returns-then-read_piece-eq0
+returns-then-read_piece-eq0 g c = further_then c.args.stream c.loop.all c.read_piece.new.stream _ c.loop.invariant c.read_piece.ensures
 
-pub loop-left-preserved : goal.loop-left-preserved
-loop-left-preserved g c = (search rules, further_then c.args.stream c.loop-left.all c.read_piece-step.result.stream _ c.loop-left.invariant.1 c.read_piece-step.ensures)
+pub loop-preserved : goal.loop-preserved
+loop-preserved g c = further_then c.args.stream c.loop.all c.read_piece.new.stream _ c.loop.invariant c.read_piece.ensures
 
-pub returns : goal.returns
-returns g c = c.loop-left.invariant.1
+pub returns-after-loop : goal.returns-after-loop
+returns-after-loop g c = c.loop.invariant

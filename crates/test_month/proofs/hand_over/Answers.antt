@@ -27,7 +27,7 @@ pub with_piece-all-requires : goal.with_piece-all-requires
 with_piece-all-requires c = goes_on c.args.stream c.loop-at.all (take c.loop-at.at c.args.bytes.now) c.requires c.loop-at.invariant.1
 
 pub loop-at-preserved : goal.loop-at-preserved
-loop-at-preserved c = (search rules, hand_next c.args.bytes.now c.loop-at.at c.least.result c.args.stream c.loop-at.all c.with_piece-all.result c.loop-at.invariant.1 c.with_piece-all.ensures)
+loop-at-preserved c = (search rules, hand_next c.args.bytes.now c.loop-at.at c.min.result c.args.stream c.loop-at.all c.with_piece-all.result c.loop-at.invariant.1 c.with_piece-all.ensures)
 
 pub returns : goal.returns
 returns c =

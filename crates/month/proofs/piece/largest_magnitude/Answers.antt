@@ -11,11 +11,11 @@ use borrow.Author.Rules.{rules}
 use Rattle.month.proofs.piece.largest_magnitude.Goals as goal
 
 pub loop-i-init : goal.loop-i-init
-loop-i-init c = (search rules, search rules, largest_zero _)
+loop-i-init c = largest_zero _
 
 pub loop-i-preserved : goal.loop-i-preserved
-loop-i-preserved c = (search rules, search rules, largest_next (λ j. number_at Little c.args.piece.now (4 * j) 4) c.loop-i.i c.loop-i.invariant.2 c.magnitude_at.ensures c.larger-most.ensures)
+loop-i-preserved c = largest_next (λ j. number_at Little c.args.piece.now (4 * j) 4) c.loop-i.i c.loop-i.invariant c.magnitude_at.ensures (search rules)
 
 pub returns : goal.returns
 unfolding words_of
-returns c = c.loop-i.invariant.2 ∙ ap (λ (k : ℕ). largest (pieces (λ j. number_at Little c.args.piece.now (4 * j) 4 ∷ []) k)) (search rules)
+returns c = c.loop-i.invariant ∙ ap (λ (k : ℕ). largest (pieces (λ j. number_at Little c.args.piece.now (4 * j) 4 ∷ []) k)) (search rules)

@@ -1,7 +1,6 @@
 use mathlib.Core.Path.{◌≡◌}
 use mathlib.Core.List.{[], ◌∷◌}
-use Prim.Native.Nat.{◌-◌, ◌*◌, ◌/◌, ◌≤◌}
-use lib.ListN.{length}
+use Prim.Native.Nat.{◌*◌}
 use Rattle.laws.specs.Pieces.{pieces}
 use Rattle.byte_order.specs.declared.bytes.ByteOrder.TheVariants.{Little}
 use Rattle.byte_order.specs.Bytes.{number_at}
@@ -9,7 +8,4 @@ use Rattle.month.specs.Piece.{largest}
 use Rattle.month.proofs.piece.largest_magnitude.Given as goal
 
 abbrev pub invariant-loop-i : goal.invariant-loop-i
-invariant-loop-i l = (l.n ≡ length l.piece / 4) × (l.i ≤ l.n) × (l.most ≡ largest (pieces (λ j. number_at Little l.piece (4 * j) 4 ∷ []) l.i))
-
-abbrev pub decreases-loop-i : goal.decreases-loop-i
-decreases-loop-i l = l.n - l.i
+invariant-loop-i l = l.most ≡ largest (pieces (λ j. number_at Little l.piece (4 * j) 4 ∷ []) l.i)

@@ -1,7 +1,6 @@
 use mathlib.Core.Path.{◌≡◌}
 use mathlib.Core.List.{[], ◌∷◌}
-use Prim.Native.Nat.{◌-◌, ◌*◌, ◌/◌, ◌≤◌}
-use lib.ListN.{length}
+use Prim.Native.Nat.{◌*◌, ◌≤◌}
 use Rattle.laws.specs.Pieces.{pieces}
 use Rattle.byte_order.specs.declared.bytes.ByteOrder.TheVariants.{Little}
 use Rattle.byte_order.specs.Bytes.{number_at}
@@ -10,7 +9,4 @@ use Rattle.month.specs.Piece.{square_most}
 use Rattle.month.proofs.piece.sum_squares.Given as goal
 
 abbrev pub invariant-loop-i : goal.invariant-loop-i
-invariant-loop-i l = (l.n ≡ length l.piece / 4) × (l.i ≤ l.n) × (l.sum ≤ l.i * square_most) × (l.sum ≡ sum_of square (pieces (λ j. number_at Little l.piece (4 * j) 4 ∷ []) l.i))
-
-abbrev pub decreases-loop-i : goal.decreases-loop-i
-decreases-loop-i l = l.n - l.i
+invariant-loop-i l = (l.sum ≤ l.i * square_most) × (l.sum ≡ sum_of square (pieces (λ j. number_at Little l.piece (4 * j) 4 ∷ []) l.i))
