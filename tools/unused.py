@@ -25,6 +25,9 @@ TESTS = [
     ("noninterference", "left_example"),
     ("pause_end", "once"),
     ("pause_end", "uneven_late"),
+    # laws that docs/DECISIONS.md names and no proof needs any more
+    ("pause_end", "parameter_by"),
+    ("pause_end", "state_by"),
 ]
 
 

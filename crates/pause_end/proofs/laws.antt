@@ -6,3 +6,4 @@ pub mod Chunks
 pub mod Run
 pub mod PauseOver
 pub mod Controls
+pub mod Clocks
