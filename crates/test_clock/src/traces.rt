@@ -81,7 +81,7 @@ impl Trace {
             ticks,
             fraction: float_bits::f64_from_bits(fraction),
         };
-        let there = test_trace::counted(self.clocks, count as usize)?;
+        let there = test_trace::counted_in_table(self.clocks, count as usize)?;
         let when = there.when_to_start(time);
         Some(match when {
             WhenToStart::Now => answer == 0,

@@ -60,7 +60,7 @@ impl Trace {
             return None;
         }
         let chunk = test_trace::read_chunk(&columns[0..35])?;
-        let there = test_trace::counted(self.clocks, chunk.count)?;
+        let there = test_trace::counted_in_table(self.clocks, chunk.count)?;
         let finished = try_update(&mut self.parameter, chunk.dt, &there)?;
         is_update(self.parameter, finished, chunk.amount, &columns[36..64])
     }

@@ -59,7 +59,7 @@ impl Trace {
             return None;
         }
         let chunk = test_trace::read_chunk(&columns[0..35])?;
-        let there = test_trace::counted(self.clocks, chunk.count)?;
+        let there = test_trace::counted_in_table(self.clocks, chunk.count)?;
         let changed = try_update(&mut self.manager, chunk.dt, &there)?;
         is_update(self.manager, changed, chunk.amount, &columns[36..68])
     }

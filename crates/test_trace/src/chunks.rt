@@ -35,15 +35,22 @@ pub fn in_an_hour(dt: f64) -> bool
     dt >= 0.0 && dt <= 3600.0
 }
 
-// The first `count` of the clocks are there, of eight at most.
-pub fn counted(all: Clocks, count: usize) -> Option<Clocks>
+// The first `count` of the clocks are there.
+pub fn counted(all: Clocks, count: usize) -> Clocks
+    ensures { result.count ≡ count }
+{
+    let clocks = all.clocks;
+    Clocks { clocks, count }
+}
+
+// The same where there can be so many.
+pub fn counted_in_table(all: Clocks, count: usize) -> Option<Clocks>
     ensures { IfSome result (λ there. there.count ≤ 8) }
 {
     if 8 < count {
         return None;
     }
-    let clocks = all.clocks;
-    Some(Clocks { clocks, count })
+    Some(counted(all, count))
 }
 
 // Columns `value previous interpolated`, and whether the levels are those.

@@ -7,7 +7,7 @@ mod clocks;
 mod orders;
 mod rows;
 
-pub use chunks::{Chunk, are_levels, counted, in_an_hour, read_chunk};
+pub use chunks::{Chunk, are_levels, counted, counted_in_table, in_an_hour, read_chunk};
 pub use clocks::{no_clocks, put_clock};
 pub use orders::{Order, easing, read_order};
 pub use rows::{asked, prepared};
