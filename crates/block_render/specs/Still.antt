@@ -8,10 +8,10 @@ use Rattle.accepted.specs.SceneOk.{SamplesOk}
 use Rattle.mixer.specs.declared.mixer.Mixer.{Mixer}
 use Rattle.mixer.specs.Mixer.{mixer_of}
 use Rattle.mixer.specs.Sounds.{sounds_played}
-use Rattle.mixer.proofs.laws.MixerOk.{MixerOk}
+use Rattle.mixer.specs.MixerOk.{MixerOk}
 use Rattle.steady_mixer.specs.Steady.{ahead}
 use Rattle.steady_mixer.specs.MixerSteady.{mixer_steady}
-use Rattle.steady_mixer.proofs.laws.Settled.{SettledMixer}
+use Rattle.steady_mixer.specs.Settled.{SettledMixer}
 use Rattle.renderer.specs.Renderer.{chunk_count, chunks_done, block_samples}
 use Rattle.chunk_render.specs.Block.{chunk_clocks, end_ticks, block_nanos, still_samples}
 use Rattle.block_render.specs.declared.block.BlockLength.{BlockLength}

@@ -3,3 +3,4 @@ pub mod Mixer
 pub mod Orders
 pub mod Sounds
 pub mod Mixes
+pub mod MixerOk

@@ -1,1 +1,2 @@
 pub mod Parameter
+pub mod Range

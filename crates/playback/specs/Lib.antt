@@ -1,1 +1,2 @@
 pub mod PlaybackStateManager
+pub mod Runs

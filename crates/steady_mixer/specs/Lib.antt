@@ -1,2 +1,3 @@
 pub mod Steady
 pub mod MixerSteady
+pub mod Settled

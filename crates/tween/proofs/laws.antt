@@ -1,4 +1,3 @@
-pub mod TimeWithin
 pub mod Tween
 pub mod Tweenable
 pub mod StartTime

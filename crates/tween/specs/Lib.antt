@@ -1,3 +1,4 @@
 pub mod Tween
 pub mod Tweenable
 pub mod StartTime
+pub mod TimeWithin

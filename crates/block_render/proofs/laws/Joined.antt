@@ -19,7 +19,7 @@ use Rattle.scene.specs.declared.scene.Scene.{Scene}
 use Rattle.accepted.specs.SceneOk.{SceneOk, SamplesOk}
 use Rattle.mixer.specs.declared.mixer.Mixer.{Mixer}
 use Rattle.mixer.specs.Sounds.{sounds_played}
-use Rattle.mixer.proofs.laws.MixerOk.{MixerOk}
+use Rattle.mixer.specs.MixerOk.{MixerOk}
 use Rattle.mixer_laws.proofs.laws.Moved.{played_ok}
 use Rattle.mixer_chunk.specs.ChunkOf.{chunk_of}
 use Rattle.frame.specs.Frame.{clamped}

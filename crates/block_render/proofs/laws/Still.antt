@@ -9,7 +9,7 @@ use Rattle.scene.specs.declared.scene.Head.{Head}
 use Rattle.scene.specs.declared.scene.Scene.{Scene}
 use Rattle.accepted.specs.SceneOk.{SceneOk}
 use Rattle.mixer.specs.declared.mixer.Mixer.{Mixer}
-use Rattle.mixer.proofs.laws.MixerOk.{MixerOk}
+use Rattle.mixer.specs.MixerOk.{MixerOk}
 use Rattle.moving_mixer.specs.Moves.{levels_update}
 use Rattle.renderer.specs.Renderer.{chunk_count}
 use Rattle.steady_mixer.specs.Steady.{Ahead}

@@ -6,7 +6,7 @@ use Rattle.scene.specs.declared.scene.Scene.{Scene}
 use Rattle.accepted.specs.SceneOk.{SceneOk, SamplesOk}
 use Rattle.mixer.specs.declared.mixer.Mixer.{Mixer}
 use Rattle.mixer.specs.Sounds.{sounds_played}
-use Rattle.mixer.proofs.laws.MixerOk.{MixerOk}
+use Rattle.mixer.specs.MixerOk.{MixerOk}
 use Rattle.mixer_laws.proofs.laws.Mixes.{mixes, chunk_ok}
 use Rattle.mixer_laws.proofs.laws.Moved.{can_move, played_ok}
 use Rattle.renderer.specs.Renderer.{chunk_count, in_chunk, chunks_done}

@@ -15,7 +15,7 @@ use Rattle.accepted.specs.SceneOk.{SceneOk}
 use Rattle.mixer.specs.declared.mixer.Mixer.{Mixer}
 use Rattle.mixer.specs.Mixer.{mixer_update}
 use Rattle.mixer.specs.Sounds.{sounds_played}
-use Rattle.mixer.proofs.laws.MixerOk.{MixerOk}
+use Rattle.mixer.specs.MixerOk.{MixerOk}
 use Rattle.mixer_laws.proofs.laws.Moved.{can_move}
 use Rattle.renderer.specs.Renderer.{chunk_count, chunk_frames, in_chunk, chunk_done, chunks_done}
 use Rattle.renderer.proofs.laws.Lengths.{chunk_starts, frames_most}

@@ -12,7 +12,7 @@ use Rattle.clock.specs.Clock.{new_clock, ClockWithin}
 use Rattle.clock.specs.WhenToStart.{ClocksWithin, absent_clock}
 use Rattle.clock.proofs.laws.Moves.{new_clock_within}
 use Rattle.parameter.specs.Parameter.{parameter_new}
-use Rattle.parameter.proofs.laws.Range.{ParameterIn, value_range}
+use Rattle.parameter.specs.Range.{ParameterIn, value_range}
 use Rattle.parameter.proofs.laws.Parameter.{new_in}
 use Rattle.playback.proofs.laws.PlaybackStateManager.{new_runs}
 use Rattle.scene.specs.declared.scene.Scene.{Scene}
@@ -20,7 +20,7 @@ use Rattle.accepted.specs.Lines.{clock_line, track_line, send_line, route_line, 
 use Rattle.accepted.specs.SceneOk.{SceneOk}
 use Rattle.mixer.specs.Sub.{track_new}
 use Rattle.mixer.specs.Mixer.{empty_track, empty_parameter, empty_clock, clocks_new, tracks_new, sends_new, routes_new, mixer_new}
-use Rattle.mixer.proofs.laws.MixerOk.{TrackOk, MixerOk}
+use Rattle.mixer.specs.MixerOk.{TrackOk, MixerOk}
 use Rattle.mixer_laws.proofs.laws.Arrays.{ArrayOk, changed_array}
 use Rattle.mixer_laws.proofs.laws.States.{TracksOk, ParametersOk, PlayedOk, mixer_ok}
 

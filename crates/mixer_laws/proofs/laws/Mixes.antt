@@ -9,7 +9,7 @@ use Rattle.recordings.proofs.laws.Recordings.{Lent, lent_recording}
 use Rattle.limits.specs.Limits.{track_places, send_lines, route_lines, sound_lines, chunk_frames_most}
 use Rattle.decibels.proofs.laws.Decibels.{amplitude_within}
 use Rattle.parameter.specs.declared.parameter.Parameter.{Parameter}
-use Rattle.parameter.proofs.laws.Range.{ParameterIn, value_range}
+use Rattle.parameter.specs.Range.{ParameterIn, value_range}
 use Rattle.parameter.proofs.laws.Parameter.{value_admitted}
 use Rattle.scene.specs.declared.scene.Scene.{Scene}
 use Rattle.accepted.specs.Lines.{sound_line, placing_at, absent_track_line, absent_route_line}
@@ -22,7 +22,7 @@ use Rattle.mixer.specs.declared.mixer.Mixer.{Mixer}
 use Rattle.mixer.specs.Mixer.{state_of, parameter_of}
 use Rattle.mixer_chunk.specs.ChunkOf.{level_of, chunk_track, chunk_route, chunk_sound, empty_level, chunk_tracks, chunk_sends, chunk_routes, chunk_sounds, chunk_of, empty_track_row, empty_route_row, empty_sound_row}
 use Rattle.mixer.specs.Mixes.{MixerMixes}
-use Rattle.mixer.proofs.laws.MixerOk.{MixerOk}
+use Rattle.mixer.specs.MixerOk.{MixerOk}
 use Rattle.mixer_laws.proofs.laws.Arrays.{ArrayOk, changed_array}
 
 -- ---- a sound lies in the samples

@@ -18,7 +18,7 @@ use Rattle.clock.specs.WhenToStart.{clocks_updated, ClocksWithin, CanMoveAll}
 use Rattle.clock.proofs.laws.ClocksMove.{clocks_within, clocks_can_move}
 use Rattle.parameter.specs.declared.parameter.Parameter.{Parameter}
 use Rattle.parameter.specs.Parameter.{parameter_update}
-use Rattle.parameter.proofs.laws.Range.{ParameterIn, value_range}
+use Rattle.parameter.specs.Range.{ParameterIn, value_range}
 use Rattle.parameter.proofs.laws.Parameter.{update_in, value_kept}
 use Rattle.playback.proofs.laws.PlaybackStateManager.{update_runs}
 use Rattle.scene.specs.declared.scene.Scene.{Scene}
@@ -32,7 +32,7 @@ use Rattle.mixer.specs.declared.mixer.Mixer.{Mixer}
 use Rattle.mixer.specs.Sub.{track_moved, track_still, track_update}
 use Rattle.mixer.specs.Mixer.{state_of, parameter_of, live_above, track_step, tracks_update, updated_where, route_update, routes_update, sends_update, mixer_update}
 use Rattle.mixer.specs.Sounds.{played_more, played_after, played_on, sounds_played}
-use Rattle.mixer.proofs.laws.MixerOk.{TrackOk, MixerOk}
+use Rattle.mixer.specs.MixerOk.{TrackOk, MixerOk}
 use Rattle.mixer_laws.proofs.laws.Arrays.{set_array, changed_array}
 use Rattle.mixer_laws.proofs.laws.States.{TracksOk, ParametersOk, tracks_of, sends_of, routes_of, played_of, mixer_ok}
 

@@ -10,7 +10,7 @@ use Rattle.laws.specs.Loop.{upto}
 use Rattle.laws.proofs.laws.Loop.{upto_holds}
 use Rattle.parameter.specs.declared.parameter.Parameter.{Parameter}
 use Rattle.parameter.specs.Parameter.{parameter_set}
-use Rattle.parameter.proofs.laws.Range.{ParameterIn, value_range, Short}
+use Rattle.parameter.specs.Range.{ParameterIn, value_range, Short}
 use Rattle.parameter.proofs.laws.Parameter.{set_in}
 use Rattle.playback.proofs.laws.PlaybackStateManager.{pause_runs, resume_runs}
 use Rattle.scene.specs.declared.scene.Scene.{Scene}
@@ -25,7 +25,7 @@ use Rattle.mixer.specs.Sub.{track_set, track_pause, track_resume}
 use Rattle.mixer.specs.Mixer.{state_of, parameter_of}
 use Rattle.order_lines.specs.Orders.{counts, tween_of, resume_tween_of}
 use Rattle.mixer.specs.Orders.{ordered_by, resumed_by, order_step, resume_step, mixer_ordered, map_track, map_send, map_route, map_main}
-use Rattle.mixer.proofs.laws.MixerOk.{TrackOk, MixerOk}
+use Rattle.mixer.specs.MixerOk.{TrackOk, MixerOk}
 use Rattle.mixer_laws.proofs.laws.Arrays.{set_array}
 use Rattle.mixer_laws.proofs.laws.States.{ParametersOk, tracks_of, sends_of, routes_of, played_of, mixer_ok}
 

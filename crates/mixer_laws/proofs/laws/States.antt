@@ -5,13 +5,13 @@ use Prim.Native.Nat.{ℕ, ◌*◌, ◌≤◌}
 use Rattle.limits.specs.Limits.{track_places, send_lines, route_lines, sound_lines}
 use Rattle.clock.specs.WhenToStart.{ClocksWithin}
 use Rattle.parameter.specs.declared.parameter.Parameter.{Parameter}
-use Rattle.parameter.proofs.laws.Range.{ParameterIn, value_range}
+use Rattle.parameter.specs.Range.{ParameterIn, value_range}
 use Rattle.scene.specs.declared.scene.Scene.{Scene}
 use Rattle.accepted.specs.Lines.{sound_line}
 use Rattle.mixer.specs.declared.sub.Track.{Track}
 use Rattle.mixer.specs.declared.mixer.Mixer.{Mixer}
 use Rattle.mixer.specs.Mixer.{absent_parameter, absent_track}
-use Rattle.mixer.proofs.laws.MixerOk.{TrackOk, MixerOk}
+use Rattle.mixer.specs.MixerOk.{TrackOk, MixerOk}
 use Rattle.mixer_laws.proofs.laws.Arrays.{ArrayOk}
 
 abbrev pub TracksOk : ℕ → ℕ → List Track → Type 0

@@ -16,7 +16,7 @@ use Rattle.laws.proofs.laws.Kept.{rank_lt, rank_le, rank_cong}
 use Rattle.laws.proofs.laws.Float.{Zero}
 use Rattle.decibels.proofs.laws.Decibels.{amplitude_within}
 use Rattle.parameter.specs.declared.parameter.Parameter.{Parameter}
-use Rattle.parameter.proofs.laws.Range.{ParameterIn, value_range}
+use Rattle.parameter.specs.Range.{ParameterIn, value_range}
 use Rattle.parameter.proofs.laws.Parameter.{value_admitted}
 use Rattle.scene.specs.declared.scene.Scene.{Scene}
 use Rattle.scene.specs.declared.scene.TrackLine.{TrackLine}

@@ -7,7 +7,7 @@ use lib.Ieee.{Float}
 use Rattle.recordings.specs.Recordings.{Recordings}
 use Rattle.laws.specs.Pieces.{pieces}
 use Rattle.laws.proofs.laws.Pieces.{pieces_cong}
-use Rattle.parameter.proofs.laws.Range.{ParameterIn, value_range}
+use Rattle.parameter.specs.Range.{ParameterIn, value_range}
 use Rattle.scene.specs.declared.scene.Head.{Head}
 use Rattle.scene.specs.declared.scene.Scene.{Scene}
 use Rattle.accepted.specs.SceneOk.{SceneOk, SamplesOk}

@@ -14,7 +14,7 @@ use Rattle.limits.specs.Limits.{track_places}
 use Rattle.laws.proofs.laws.Loop.{upto_holds}
 use Rattle.laws.proofs.laws.Unsigned.{unsigned}
 use Rattle.clock.specs.declared.when_to_start.Clocks.{Clocks}
-use Rattle.parameter.proofs.laws.Range.{ParameterIn}
+use Rattle.parameter.specs.Range.{ParameterIn}
 use Rattle.parameter.proofs.laws.Parameter.{silent_range, update_in, silent_kept}
 use Rattle.playback.specs.declared.playback_state_manager.PlaybackState.TheVariants.{Paused}
 use Rattle.playback.specs.declared.playback_state_manager.PlaybackStateManager.{PlaybackStateManager}

@@ -8,7 +8,7 @@ use lib.Dec.{T, lit<}
 use Rattle.laws.specs.Loop.{upto}
 use Rattle.laws.proofs.laws.Loop.{upto_holds}
 use Rattle.parameter.proofs.laws.Parameter.{silent_range, set_in}
-use Rattle.parameter.proofs.laws.Range.{Short}
+use Rattle.parameter.specs.Range.{Short}
 use Rattle.scene.specs.declared.scene.Scene.{Scene}
 use Rattle.scene.specs.declared.scene.OrderLine.{OrderLine}
 use Rattle.scene.specs.declared.scene.OrderKind.{OrderKind}

@@ -21,9 +21,9 @@ use Rattle.clock.specs.declared.when_to_start.Clocks.{Clocks}
 use Rattle.tween.specs.declared.start_time.StartTime.{StartTime}
 use Rattle.tween.specs.declared.start_time.StartTime.TheVariants.{Immediate, Delayed, ClockTime}
 use Rattle.tween.specs.declared.tween.Tween.{Tween}
-use Rattle.tween.proofs.laws.TimeWithin.{TimeWithin}
+use Rattle.tween.specs.TimeWithin.{TimeWithin}
 use Rattle.tween.specs.Tween.{tween_value}
-use Rattle.tween.proofs.laws.Tween.{within_start, within_step, no_length_ends, tween_amount}
+use Rattle.tween.proofs.laws.Tween.{within_unsigned, within_start, within_step, no_length_ends, tween_amount}
 use Rattle.tween.specs.Tweenable.{interpolated}
 use Rattle.tween.proofs.laws.Tweenable.{interpolated_moves, interpolated_silent}
 use Rattle.parameter.specs.declared.parameter.ParameterState.{ParameterState}
@@ -32,7 +32,7 @@ use Rattle.parameter.specs.declared.parameter.Parameter.{Parameter}
 use Rattle.parameter.specs.Parameter.{ParameterUpdate}
 use Rattle.parameter.specs.Parameter.{TweenStart}
 use Rattle.parameter.specs.Parameter.{parameter_new, parameter_set, started_at, tween_start, with_state, tween_move, tween_update_in, tween_update, value_in, new_raw_value, with_previous, with_new_value, parameter_update}
-use Rattle.parameter.proofs.laws.Range.{Range, value_range, Short, StateIn, ParameterIn}
+use Rattle.parameter.specs.Range.{Range, value_range, Short, StateIn, ParameterIn}
 
 -- ---- it stays there
 
@@ -101,7 +101,7 @@ module _ (R : Range) (kept : IsKept R) where
       let short = subst (λ (n : ℕ). n < 2 ^ 53) (sym same) k.3 in
       either_in R begun.started (tween_move p start target (add binary64 time dt) begun.tween)
       (record { parameter = with_state p (Tweening start target time begun.tween) p.stagnant; just_finished_tween = false })
-      (λ e. tween_move_in p start target time dt begun.tween h k.0 k.1 k.2.sign w short)
+      (λ e. tween_move_in p start target time dt begun.tween h k.0 k.1 (within_unsigned time tween.duration k.2) w short)
       (λ e. with_state_in R p (Tweening start target time begun.tween) p.stagnant h (k.0, k.1, subst (λ (n : ℕ). TimeWithin time n) (sym same) k.2, short))
 
   value_in_lem : (state : ParameterState) (now : Decibels) → StateIn R state → R.Value now.0 → R.Value (value_in state now).0

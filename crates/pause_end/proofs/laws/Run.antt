@@ -18,7 +18,7 @@ use Rattle.scene.specs.declared.scene.Scene.{Scene}
 use Rattle.accepted.specs.Lines.{order_line}
 use Rattle.accepted.specs.SceneOk.{SceneOk}
 use Rattle.mixer.specs.declared.mixer.Mixer.{Mixer}
-use Rattle.mixer.proofs.laws.MixerOk.{MixerOk}
+use Rattle.mixer.specs.MixerOk.{MixerOk}
 use Rattle.mixer.specs.Orders.{mixer_ordered}
 use Rattle.order_lines.specs.Orders.{tween_of}
 use Rattle.mixer_laws.proofs.laws.Ordered.{ordered_ok}

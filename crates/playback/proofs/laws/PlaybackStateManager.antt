@@ -22,10 +22,10 @@ use Rattle.playback.specs.declared.playback_state_manager.PlaybackState.TheVaria
 use Rattle.playback.specs.declared.playback_state_manager.PlaybackStateManager.{PlaybackStateManager}
 use Rattle.playback.specs.PlaybackStateManager.{PlaybackUpdate}
 use Rattle.parameter.specs.Parameter.{parameter_set, parameter_update}
-use Rattle.parameter.proofs.laws.Range.{ParameterIn, value_range, Short}
+use Rattle.parameter.specs.Range.{ParameterIn, value_range, Short}
 use Rattle.parameter.proofs.laws.Parameter.{new_in, set_in, update_in, set_at_once, value_kept}
 use Rattle.playback.specs.PlaybackStateManager.{is_stopped, silent, identity, playback_new, playback_pause, resumed, resumed_at, playback_resume, unchanged, changed_to, after_fade, waited_until, waiting_update, state_update, playback_update}
-use Rattle.playback.proofs.laws.Runs.{StateRuns, Runs}
+use Rattle.playback.specs.Runs.{StateRuns, Runs}
 
 pub runs_not_stopped : (count : ℕ) (state : PlaybackState) → StateRuns count state → is_stopped state ≡ false
 unfolding is_stopped

@@ -31,7 +31,7 @@ use Rattle.track.specs.Mix.{mixed_frame, mixed_set}
 use Rattle.mixer.specs.declared.mixer.Mixer.{Mixer}
 use Rattle.mixer.specs.Mixer.{mixer_new}
 use Rattle.mixer.specs.Orders.{mixer_ordered}
-use Rattle.mixer.proofs.laws.MixerOk.{MixerOk}
+use Rattle.mixer.specs.MixerOk.{MixerOk}
 use Rattle.mixer_laws.proofs.laws.Made.{new_ok}
 use Rattle.mixer_laws.proofs.laws.Ordered.{ordered_ok}
 use Rattle.mixer_laws.proofs.laws.Moved.{update_ok, played_ok}

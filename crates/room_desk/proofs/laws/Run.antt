@@ -11,7 +11,7 @@ use Rattle.recordings.specs.Recordings.{Recordings}
 use Rattle.laws.proofs.laws.DecibelRange.{ReadRange, value→read}
 use Rattle.tween.specs.Tweenable.{interpolated}
 use Rattle.tween.proofs.laws.Tweenable.{interpolated_read}
-use Rattle.parameter.proofs.laws.Range.{ParameterIn, value_range}
+use Rattle.parameter.specs.Range.{ParameterIn, value_range}
 use Rattle.decibels.specs.Answer.{Answer, amplitude_answer}
 use Rattle.decibels.specs.Decibels.{admitted, amplitude}
 use Rattle.decibels.proofs.laws.Decibels.{read_admitted}
@@ -31,7 +31,7 @@ use Rattle.chunk.specs.Chunk.{LevelInRange, ChunkOk, amount_at, track_row, send_
 use Rattle.mixer.specs.Mixer.{parameter_of}
 use Rattle.mixer.specs.Orders.{mixer_ordered}
 use Rattle.mixer_chunk.specs.ChunkOf.{chunk_of}
-use Rattle.mixer.proofs.laws.MixerOk.{MixerOk}
+use Rattle.mixer.specs.MixerOk.{MixerOk}
 use Rattle.mixer_laws.proofs.laws.Ordered.{ordered_ok}
 use Rattle.mixer_laws.proofs.laws.Mixes.{chunk_ok}
 use Rattle.renderer.specs.Renderer.{chunk_count, chunk_frames, mixer_at, chunks_done, mixer_in, chunk_in}

@@ -16,7 +16,7 @@ use Rattle.mixer.specs.declared.mixer.Mixer.{Mixer}
 use Rattle.mixer.specs.Sub.{track_new}
 use Rattle.mixer.specs.Mixer.{empty_track, empty_parameter, absent_track, absent_parameter, tracks_new, sends_new, routes_new, mixer_new}
 use Rattle.mixer.specs.Orders.{mixer_ordered}
-use Rattle.mixer.proofs.laws.MixerOk.{MixerOk}
+use Rattle.mixer.specs.MixerOk.{MixerOk}
 use Rattle.mixer_laws.proofs.laws.Ordered.{ordered_ok}
 use Rattle.renderer.specs.Renderer.{chunk_count, chunks_done, mixer_at}
 use Rattle.renderer.proofs.laws.Renderer.{chunks_ok, blocks_ok, chunks_few, seconds_in_an_hour}

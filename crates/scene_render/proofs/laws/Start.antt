@@ -9,7 +9,7 @@ use Rattle.chunk.specs.declared.chunk.ChunkTrack.{ChunkTrack}
 use Rattle.chunk.specs.Chunk.{track_row}
 use Rattle.mixer.specs.declared.mixer.Mixer.{Mixer}
 use Rattle.mixer.specs.Mixer.{mixer_new}
-use Rattle.mixer.proofs.laws.MixerOk.{MixerOk}
+use Rattle.mixer.specs.MixerOk.{MixerOk}
 use Rattle.mixer_laws.proofs.laws.Made.{new_ok}
 use Rattle.mixer_chunk.specs.ChunkOf.{chunk_track, chunk_of}
 use Rattle.mixer_chunk.proofs.laws.Rows.{track_here}

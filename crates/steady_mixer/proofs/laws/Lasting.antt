@@ -28,7 +28,7 @@ use Rattle.accepted.specs.SceneOk.{SceneOk}
 use Rattle.mixer.specs.declared.sub.Track.{Track}
 use Rattle.mixer.specs.declared.mixer.Mixer.{Mixer}
 use Rattle.mixer.specs.Mixer.{absent_track, absent_parameter, state_of, parameter_of, live_above}
-use Rattle.mixer.proofs.laws.MixerOk.{MixerOk}
+use Rattle.mixer.specs.MixerOk.{MixerOk}
 use Rattle.steady_mixer.specs.Steady.{Ahead, ahead, comes_later, same_level, motion_later, parameter_steady, state_steady, is_pausing, reached_steady, steady_where, route_steady}
 use Rattle.steady_mixer.specs.MixerSteady.{steady_track, steady_route, steady_send, mixer_steady}
 use Rattle.steady_mixer.proofs.laws.Steady.{same_flag}

@@ -1,5 +1,4 @@
--- A motion has settled where working out its value again gives the value that stands there. After an update every motion of a parameter that was reached
--- has settled, so that one which waits on leaves its value alone. A fade counts while its track is pausing. Assumes nothing.
+-- After an update every motion of a parameter that was reached has settled, so that one which waits on leaves its value alone. Assumes nothing.
 use mathlib.Core.Path.{◌≡◌, refl, sym, ◌∙◌, subst}
 use mathlib.Core.Bool.{Bool, true, false, cond, true≢false, false≢true}
 use mathlib.Core.Logic.{inl, inr}
@@ -40,12 +39,10 @@ use Rattle.mixer.specs.declared.sub.Track.{Track}
 use Rattle.mixer.specs.declared.mixer.Mixer.{Mixer}
 use Rattle.mixer.specs.Mixer.{absent_track, absent_parameter, state_of, parameter_of, live_above, track_step, tracks_update, updated_where, route_update, routes_update, sends_update, mixer_update}
 use Rattle.mixer.specs.Sub.{track_moved, track_still, track_update}
-use Rattle.mixer.proofs.laws.MixerOk.{MixerOk}
+use Rattle.mixer.specs.MixerOk.{MixerOk}
 use Rattle.steady_mixer.specs.Steady.{is_pausing}
-use Rattle.steady_mixer.proofs.laws.Waited.{route_reached}
-
-abbrev pub Settled : Parameter → Type 0
-Settled p = p.stagnant ≡ false → new_raw_value p ≡ p.raw_value
+pub use Rattle.steady_mixer.specs.Settled.{Settled, SettledTrack, SettledMixer}
+use Rattle.steady_mixer.specs.Settled.{route_reached}
 
 -- ---- a parameter
 
@@ -101,22 +98,12 @@ module _ (dt : Float) (clocks : Clocks) where
 
 -- ---- a track
 
-pub record SettledTrack (t : Track) : Type 0 where
-  pub volume : t.reached ≡ true → Settled t.volume
-  pub fade : t.reached ≡ true → is_pausing t.playback.state ≡ true → Settled t.playback.volume_fade
-
 track_settled : (t : Track) (reached : Bool) (dt : Float) (clocks : Clocks) → SettledTrack (track_update t reached dt clocks)
 unfolding track_update track_moved track_still
 track_settled t true dt clocks = record { volume = λ r. update_settled t.volume dt clocks; fade = λ r. playback_settled dt clocks t.playback }
 track_settled t false dt clocks = record { volume = λ r. absurd (false≢true r); fade = λ r. absurd (false≢true r) }
 
 -- ---- the mixer
-
-pub record SettledMixer (s : Scene) (m : Mixer) : Type 0 where
-  pub main : Settled m.main_volume
-  pub sends : (i : ℕ) → i < s.send_count → Settled (parameter_of m.sends i)
-  pub tracks : (t : ℕ) → t < s.track_count → SettledTrack (state_of m.tracks t)
-  pub routes : (r : ℕ) → r < s.route_count → route_reached s m.tracks r ≡ true → Settled (parameter_of m.routes r)
 
 -- the first i tracks
 record FirstSettled (i : ℕ) (tracks : List Track) : Type 0 where

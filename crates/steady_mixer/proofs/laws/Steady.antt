@@ -25,7 +25,7 @@ use Rattle.tween.specs.Tween.{tween_value}
 use Rattle.parameter.specs.declared.parameter.ParameterState.{ParameterState}
 use Rattle.parameter.specs.declared.parameter.ParameterState.TheVariants.{Idle, Tweening}
 use Rattle.parameter.specs.declared.parameter.Parameter.{Parameter}
-use Rattle.parameter.proofs.laws.Range.{ParameterIn, value_range}
+use Rattle.parameter.specs.Range.{ParameterIn, value_range}
 use Rattle.playback.specs.declared.playback_state_manager.PlaybackState.{PlaybackState}
 use Rattle.playback.specs.declared.playback_state_manager.PlaybackState.TheVariants.{Playing, Pausing, Paused, WaitingToResume, Resuming, Stopping, Stopped}
 use Rattle.playback.specs.PlaybackStateManager.{is_advancing, unchanged, after_fade, waited_until, waiting_update, state_update, playback_update}
@@ -46,7 +46,7 @@ use Rattle.playback.specs.declared.playback_state_manager.PlaybackStateManager.{
 use Rattle.scene_tables.proofs.laws.Every.{every_at}
 use Rattle.accepted.specs.SceneOk.{SceneOk}
 use Rattle.mixer.specs.Sub.{track_moved, track_still, track_update}
-use Rattle.mixer.proofs.laws.MixerOk.{MixerOk}
+use Rattle.mixer.specs.MixerOk.{MixerOk}
 use Rattle.accepted.specs.Lines.{absent_track_line, absent_route_line}
 use Rattle.steady_mixer.specs.Steady.{Ahead, ahead, comes_later, same_level, motion_later, parameter_steady, state_steady, is_pausing, fade_ahead, reached_steady, steady_where, route_steady}
 use Rattle.steady_mixer.specs.MixerSteady.{steady_track, steady_route, steady_send, mixer_steady}

@@ -22,6 +22,7 @@ use Rattle.accepted.specs.Lines.{absent_route_line}
 use Rattle.mixer.specs.declared.sub.Track.{Track}
 use Rattle.mixer.specs.declared.mixer.Mixer.{Mixer}
 use Rattle.mixer.specs.Mixer.{mixer_of, absent_track, absent_parameter, state_of}
+pub use Rattle.steady_mixer.specs.Settled.{route_reached}
 
 -- ---- a start time, a parameter, a playback state
 
@@ -69,9 +70,6 @@ waited_track d t =
       reached = t.reached;
       live = t.live;
     }
-
-abbrev pub route_reached : Scene → List Track → ℕ → Bool
-route_reached s tracks r = (state_of tracks ((get_or s.routes r absent_route_line).track - 1)).reached
 
 unfoldable pub waited_tracks : ℕ → ℕ → List Track → List Track
 waited_tracks d n tracks = changed (λ t x. waited_track d x) n tracks

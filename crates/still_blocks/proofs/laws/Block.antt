@@ -18,7 +18,7 @@ use Rattle.frame.specs.Frame.{clamped}
 use Rattle.chunk.specs.declared.chunk.Chunk.{Chunk}
 use Rattle.track.specs.Mix.{mixed_frame}
 use Rattle.mixer.specs.declared.mixer.Mixer.{Mixer}
-use Rattle.mixer.proofs.laws.MixerOk.{MixerOk}
+use Rattle.mixer.specs.MixerOk.{MixerOk}
 use Rattle.mixer_chunk.specs.ChunkOf.{chunk_of}
 use Rattle.mixer_laws.proofs.laws.Mixes.{chunk_ok}
 use Rattle.renderer.specs.Renderer.{chunk_count, chunk_frames, in_chunk, chunks_done, channels_of, chunk_samples, block_samples}

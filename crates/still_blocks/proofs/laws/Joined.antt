@@ -14,7 +14,7 @@ use Rattle.scene.specs.declared.scene.OrderKind.TheVariants.{MainVolume, TrackVo
 use Rattle.accepted.specs.Lines.{route_line, order_line}
 use Rattle.accepted.specs.SceneOk.{IndexOk, RouteOk, OrderOk, SceneOk, SamplesOk}
 use Rattle.mixer.specs.declared.mixer.Mixer.{Mixer}
-use Rattle.mixer.proofs.laws.MixerOk.{MixerOk}
+use Rattle.mixer.specs.MixerOk.{MixerOk}
 use Rattle.mixer_chunk.specs.ChunkOf.{chunk_of}
 use Rattle.steady_mixer.specs.Steady.{Ahead}
 use Rattle.steady_mixer.specs.MixerSteady.{mixer_steady}

@@ -31,7 +31,7 @@ use Rattle.mixer.specs.declared.sub.Track.{Track}
 use Rattle.mixer.specs.declared.mixer.Mixer.{Mixer}
 use Rattle.mixer.specs.Mixer.{absent_track, absent_parameter, state_of, parameter_of, live_above}
 use Rattle.mixer.specs.Sounds.{played_more, played_where, played_after, played_on, sounds_played}
-use Rattle.mixer.proofs.laws.MixerOk.{MixerOk}
+use Rattle.mixer.specs.MixerOk.{MixerOk}
 use Rattle.mixer_chunk.specs.ChunkOf.{level_of, chunk_track, chunk_route, empty_track_row, empty_level, empty_route_row, chunk_tracks, chunk_sends, chunk_routes, chunk_sound, chunk_of}
 use Rattle.renderer.specs.Renderer.{chunk_count, chunk_frames, in_chunk, chunk_done, chunks_done}
 use Rattle.renderer.proofs.laws.Renderer.{chunk_seconds, chunk_done_ok}

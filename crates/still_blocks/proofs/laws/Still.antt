@@ -24,12 +24,12 @@ use Rattle.chunk.specs.declared.chunk.Level.{Level}
 use Rattle.chunk.specs.declared.chunk.ChunkTrack.{ChunkTrack}
 use Rattle.chunk.specs.Chunk.{is_steady, absent_level, absent_track_row, absent_sound_row, track_row, send_row, sound_row}
 use Rattle.parameter.specs.declared.parameter.Parameter.{Parameter}
-use Rattle.parameter.proofs.laws.Range.{ParameterIn, value_range}
+use Rattle.parameter.specs.Range.{ParameterIn, value_range}
 use Rattle.playback.specs.PlaybackStateManager.{is_advancing}
 use Rattle.mixer.specs.declared.sub.Track.{Track}
 use Rattle.mixer.specs.declared.mixer.Mixer.{Mixer}
 use Rattle.mixer.specs.Mixer.{state_of, parameter_of, live_above}
-use Rattle.mixer.proofs.laws.MixerOk.{MixerOk}
+use Rattle.mixer.specs.MixerOk.{MixerOk}
 use Rattle.mixer_chunk.specs.ChunkOf.{level_of, chunk_track, chunk_sound, empty_level, empty_track_row, empty_sound_row, chunk_tracks, chunk_sends, chunk_sounds, chunk_of}
 use Rattle.steady_mixer.specs.MixerSteady.{steady_track, steady_route, steady_send, mixer_steady}
 use Rattle.steady_mixer.specs.Steady.{Ahead, fade_ahead, same_level, parameter_steady, state_steady, reached_steady, steady_where}

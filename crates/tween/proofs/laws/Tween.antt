@@ -11,6 +11,7 @@ use lib.Pow.{pow_pos}
 use lib.Ieee.{Float, nan, inf, fin, binary64, low, up, down, round, add, sub, mul, div, lt, le, of_int}
 use lib.Ieee.Positive.{positive}
 use lib.Ieee.Order.{round_mono}
+use Rattle.std.specs.Float.{is_sign_negative}
 use Rattle.laws.proofs.laws.Arithmetic.{le_or}
 use Rattle.laws.proofs.laws.Choice.{true-T, false-T}
 use Rattle.laws.specs.Float.{pos_zero, half, one, two}
@@ -25,7 +26,7 @@ use Rattle.rounding.specs.Duration.{secs_from_millis}
 use Rattle.tween.specs.declared.tween.Easing.{Easing}
 use Rattle.tween.specs.declared.tween.Easing.TheVariants.{Linear, InPowi, OutPowi, InOutPowi}
 use Rattle.tween.specs.declared.tween.Tween.{Tween}
-use Rattle.tween.proofs.laws.TimeWithin.{TimeWithin}
+use Rattle.tween.specs.TimeWithin.{TimeWithin}
 use Rattle.tween.specs.Tween.{powi_from, powi, in_out_powi, easing_apply, tween_value}
 
 -- ---- easings
@@ -179,20 +180,33 @@ unsigned_total (fin false m i) (inf false) h k e = absurd (true≢false e)
 unsigned_total (fin false m i) (fin true n j) h k e = absurd k
 unsigned_total (fin false m i) (fin false n j) h k e = le_or (n * up j * down i) (m * up i * down j) (fails (m * up i * down j) (n * up j * down i) e)
 
+-- the sign of a time within a motion is clear, and a time of which that is so and which is at most the duration is within it
+pub within_unsigned : (time : Float) (millis : ℕ) → TimeWithin time millis → T (unsigned time)
+unfolding le is_sign_negative
+within_unsigned nan millis w = absurd w.most
+within_unsigned (inf s) millis w = w.sign
+within_unsigned (fin s m e) millis w = w.sign
+
+unsigned_within : (time : Float) (millis : ℕ) → T (unsigned time) → T (le time (secs_from_millis millis)) → TimeWithin time millis
+unfolding is_sign_negative
+unsigned_within nan millis h k = absurd h
+unsigned_within (inf s) millis h k = record { sign = h; most = k }
+unsigned_within (fin s m e) millis h k = record { sign = h; most = k }
+
 pub within_start : (millis : ℕ) → TimeWithin pos_zero millis
-within_start millis = record { sign = tt; most = unsigned_above (secs_from_millis millis) (duration_unsigned millis) }
+within_start millis = unsigned_within pos_zero millis tt (unsigned_above (secs_from_millis millis) (duration_unsigned millis))
 
 pub tween_amount : (tween : Tween) (time : Float) → 0 < tween.duration → tween.duration < 2 ^ 53 → TimeWithin time tween.duration → InUnit binary64 (tween_value tween time)
 unfolding tween_value
 tween_amount tween time p h w =
     easing_amount tween.easing (div binary64 time (secs_from_millis tween.duration))
-    (div_amount binary64 time (secs_from_millis tween.duration) w.sign (duration_positive tween.duration p h) w.most)
+    (div_amount binary64 time (secs_from_millis tween.duration) (within_unsigned time tween.duration w) (duration_positive tween.duration p h) w.most)
 
 -- a motion that has not ended after a step on
 pub within_step : (time dt : Float) (millis : ℕ) → T (unsigned time) → T (unsigned dt) → le (secs_from_millis millis) (add binary64 time dt) ≡ false → TimeWithin (add binary64 time dt) millis
 within_step time dt millis h k e =
     let sign = add-unsigned binary64 time dt h k in
-    record { sign = sign; most = unsigned_total (secs_from_millis millis) (add binary64 time dt) (duration_unsigned millis) sign e }
+    unsigned_within (add binary64 time dt) millis sign (unsigned_total (secs_from_millis millis) (add binary64 time dt) (duration_unsigned millis) sign e)
 
 -- a motion of no length has ended at once
 pub no_length_ends : (time : Float) → T (unsigned time) → le (secs_from_millis 0) time ≡ true

@@ -1,11 +1,9 @@
--- What a mixer keeps to while an accepted scene is rendered: every value stays in its range, so that what is read of it is a number of at most 20 dB. Assumes nothing.
-use mathlib.Core.Path.{◌≡◌}
-use Prim.Native.Nat.{ℕ, ◌*◌, ◌≤◌, ◌<◌}
-use lib.ListN.{get_or, length}
+-- What a mixer keeps to while an accepted scene is rendered: every value stays in its range, so that what is read of it is a number of at most 20 dB.
+use Rattle.std.specs.Prelude.{◌≡◌, ℕ, ◌*◌, ◌≤◌, ◌<◌, get_or, length}
 use Rattle.limits.specs.Limits.{track_places, send_lines, route_lines, sound_lines}
 use Rattle.clock.specs.WhenToStart.{ClocksWithin}
-use Rattle.parameter.proofs.laws.Range.{ParameterIn, value_range}
-use Rattle.playback.proofs.laws.Runs.{Runs}
+use Rattle.parameter.specs.Range.{ParameterIn, value_range}
+use Rattle.playback.specs.Runs.{Runs}
 use Rattle.scene.specs.declared.scene.Scene.{Scene}
 use Rattle.accepted.specs.Lines.{sound_line}
 use Rattle.mixer.specs.declared.sub.Track.{Track}

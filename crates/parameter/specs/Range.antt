@@ -1,9 +1,8 @@
--- What a parameter keeps to: the ranges of its values and of their targets. Assumes nothing.
-use Prim.Native.Nat.{◌<◌, ◌^◌}
-use lib.Ieee.{Float}
+-- What a parameter keeps to: the ranges of its values and of their targets.
+use Rattle.std.specs.Prelude.{◌<◌, ◌^◌, Float}
 use Rattle.laws.specs.DecibelRange.{TargetRange, ValueRange}
 use Rattle.tween.specs.declared.tween.Tween.{Tween}
-use Rattle.tween.proofs.laws.TimeWithin.{TimeWithin}
+use Rattle.tween.specs.TimeWithin.{TimeWithin}
 use Rattle.parameter.specs.declared.parameter.ParameterState.{ParameterState}
 use Rattle.parameter.specs.declared.parameter.ParameterState.TheVariants.{Idle, Tweening}
 use Rattle.parameter.specs.declared.parameter.Parameter.{Parameter}

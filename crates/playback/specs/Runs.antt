@@ -1,10 +1,10 @@
--- What a playback state manager keeps to along a render. Assumes nothing.
-use Prim.Native.Nat.{ℕ}
+-- What a playback state manager keeps to along a render.
+use Rattle.std.specs.Prelude.{ℕ}
 use Rattle.tween.specs.StartTime.{ClockThere}
 use Rattle.playback.specs.declared.playback_state_manager.PlaybackState.{PlaybackState}
 use Rattle.playback.specs.declared.playback_state_manager.PlaybackState.TheVariants.{Playing, Pausing, Paused, WaitingToResume, Resuming, Stopping, Stopped}
 use Rattle.playback.specs.declared.playback_state_manager.PlaybackStateManager.{PlaybackStateManager}
-use Rattle.parameter.proofs.laws.Range.{ParameterIn, value_range, Short}
+use Rattle.parameter.specs.Range.{ParameterIn, value_range, Short}
 
 -- neither stopping nor stopped; what it waits for will come
 abbrev pub StateRuns : ℕ → PlaybackState → Type 0
