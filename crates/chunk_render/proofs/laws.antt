@@ -5,3 +5,4 @@ pub mod Clocks
 pub mod Ends
 pub mod Nanos
 pub mod Turn
+pub mod Follows

@@ -80,3 +80,19 @@ chunk_of s n m =
       sounds = chunk_sounds s.sounds s.sound_count m.played;
       main = level_of m.main_volume;
     }
+
+-- a chunk once its sounds have played on, of n frames: its other lines stay
+unfoldable pub chunk_played : Scene → ℕ → Mixer → Chunk → Chunk
+chunk_played s n m c =
+    record {
+      frames = n;
+      track_count = c.track_count;
+      tracks = c.tracks;
+      send_count = c.send_count;
+      sends = c.sends;
+      route_count = c.route_count;
+      routes = c.routes;
+      sound_count = c.sound_count;
+      sounds = chunk_sounds s.sounds s.sound_count m.played;
+      main = c.main;
+    }

@@ -1,1 +1,2 @@
 pub mod ChunkOf
+pub mod Follows

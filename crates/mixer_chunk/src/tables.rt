@@ -9,8 +9,9 @@ ghost use Rattle.mixer.specs.Mixer.{parameter_of};
 ghost use Rattle.mixer.specs.Mixes.{MixerMixes};
 ghost use Rattle.mixer_chunk.specs.ChunkOf.{level_of, chunk_track, chunk_route, chunk_sound};
 ghost use Rattle.mixer_chunk.specs.ChunkOf.{empty_level, empty_track_row, empty_route_row, empty_sound_row};
-ghost use Rattle.mixer_chunk.specs.ChunkOf.{chunk_tracks, chunk_sends, chunk_routes, chunk_sounds, chunk_of};
+ghost use Rattle.mixer_chunk.specs.ChunkOf.{chunk_tracks, chunk_sends, chunk_routes, chunk_sounds, chunk_of, chunk_played};
 
+use crate::route_gain::RouteGain;
 use chunk::{Chunk, ChunkRoute, ChunkSound, ChunkTrack, Level};
 use decibels::{Amplitude, Decibels};
 use gain_table::GainTable;
@@ -22,7 +23,7 @@ use spatial::Placing;
 
 // A parameter before the chunk and at its end.
 #[tactic(auto, unfolding(crate::specs::ChunkOf::level_of))]
-fn level_of(parameter: &Parameter) -> Level
+pub(crate) fn level_of(parameter: &Parameter) -> Level
     ensures { result ≡ level_of parameter.now }
 {
     Level {
@@ -32,7 +33,7 @@ fn level_of(parameter: &Parameter) -> Level
 }
 
 #[tactic(auto, unfolding(crate::specs::ChunkOf::chunk_track))]
-fn chunk_track(line: &TrackLine, placing: Placing, track: &Track) -> ChunkTrack
+pub(crate) fn chunk_track(line: &TrackLine, placing: Placing, track: &Track) -> ChunkTrack
     ensures { result ≡ chunk_track line.now placing track.now }
 {
     ChunkTrack {
@@ -45,7 +46,12 @@ fn chunk_track(line: &TrackLine, placing: Placing, track: &Track) -> ChunkTrack
 }
 
 #[tactic(auto, unfolding(crate::specs::ChunkOf::chunk_route))]
-fn chunk_route(line: &RouteLine, parameter: &Parameter, table: &GainTable) -> ChunkRoute
+pub(crate) fn chunk_route(
+    line: &RouteLine,
+    parameter: &Parameter,
+    gain: &mut RouteGain,
+    table: &GainTable,
+) -> ChunkRoute
     requires gain_table { IsGainTable table.now }
     requires admitted { T (admitted parameter.now.raw_value.0) }
     ensures { result ≡ chunk_route line.now parameter.now }
@@ -53,7 +59,7 @@ fn chunk_route(line: &RouteLine, parameter: &Parameter, table: &GainTable) -> Ch
     ChunkRoute {
         track: line.track,
         send: line.send,
-        amplitude: parameter.raw_value.as_amplitude_in(table),
+        amplitude: gain.amplitude_of(parameter.raw_value, table),
     }
 }
 
@@ -129,7 +135,7 @@ fn put_tracks(rows: &mut [ChunkTrack; TRACK_PLACES], scene: &Scene, mixer: &Mixe
 }
 
 #[tactic(auto, using(laws::proofs::laws::Loop::changed_zero), unfolding(crate::specs::ChunkOf::chunk_sends))]
-fn put_sends(rows: &mut [Level; SEND_LINES], scene: &Scene, mixer: &Mixer)
+pub(crate) fn put_sends(rows: &mut [Level; SEND_LINES], scene: &Scene, mixer: &Mixer)
     requires { scene.now.send_count ≤ send_lines }
     ensures { rows.new ≡ chunk_sends scene.now.send_count mixer.now.sends }
 {
@@ -140,7 +146,13 @@ fn put_sends(rows: &mut [Level; SEND_LINES], scene: &Scene, mixer: &Mixer)
 }
 
 #[tactic(auto, using(laws::proofs::laws::Loop::changed_zero), unfolding(crate::specs::ChunkOf::chunk_routes))]
-fn put_routes(rows: &mut [ChunkRoute; ROUTE_LINES], scene: &Scene, mixer: &Mixer, table: &GainTable)
+fn put_routes(
+    rows: &mut [ChunkRoute; ROUTE_LINES],
+    scene: &Scene,
+    mixer: &Mixer,
+    gains: &mut [RouteGain; ROUTE_LINES],
+    table: &GainTable,
+)
     requires gain_table { IsGainTable table.now }
     requires routes_fit { scene.now.route_count ≤ route_lines }
     requires admitted { (r : ℕ) → r < scene.now.route_count → T (admitted (parameter_of mixer.now.routes r).raw_value.0) }
@@ -148,7 +160,7 @@ fn put_routes(rows: &mut [ChunkRoute; ROUTE_LINES], scene: &Scene, mixer: &Mixer
 {
     *rows = [empty_route(); ROUTE_LINES];
     for r in 0..scene.route_count {
-        rows[r] = chunk_route(&scene.routes[r], &mixer.routes[r], table);
+        rows[r] = chunk_route(&scene.routes[r], &mixer.routes[r], &mut gains[r], table);
     }
 }
 
@@ -165,24 +177,52 @@ fn put_sounds(rows: &mut [ChunkSound; SOUND_LINES], scene: &Scene, mixer: &Mixer
     }
 }
 
-// Lays the chunk of so many frames that mixing reads.
-#[tactic(auto, unfolding(crate::specs::ChunkOf::chunk_of))]
+// The chunk of so many frames, once its sounds have played on. Where nothing else moves it is the mixer's.
+#[tactic(auto, unfolding(crate::specs::ChunkOf::chunk_played))]
+pub fn put_played(chunk: &mut Chunk, scene: &Scene, mixer: &Mixer, frames: usize)
+    requires scene_ok { SceneOk scene.now }
+    requires mixer_fits_scene { MixerMixes scene.now mixer.now }
+    ensures { chunk.new ≡ chunk_played scene.now frames mixer.now chunk.old }
+{
+    chunk.frames = frames;
+    put_sounds(&mut chunk.sounds, scene, mixer);
+}
+
+// Lays the chunk of so many frames that mixing reads. `gains` are those that a show keeps from chunk to chunk.
+#[tactic(auto, unfolding(crate::specs::ChunkOf::chunk_of, crate::specs::ChunkOf::chunk_played))]
+pub fn put_next_chunk(
+    chunk: &mut Chunk,
+    scene: &Scene,
+    mixer: &Mixer,
+    frames: usize,
+    gains: &mut [RouteGain; ROUTE_LINES],
+    table: &GainTable,
+)
+    requires gain_table { IsGainTable table.now }
+    requires scene_ok { SceneOk scene.now }
+    requires mixer_fits_scene { MixerMixes scene.now mixer.now }
+    ensures { chunk.new ≡ chunk_of scene.now frames mixer.now }
+{
+    put_played(chunk, scene, mixer, frames);
+    chunk.track_count = scene.track_count;
+    put_tracks(&mut chunk.tracks, scene, mixer);
+    chunk.send_count = scene.send_count;
+    put_sends(&mut chunk.sends, scene, mixer);
+    chunk.route_count = scene.route_count;
+    put_routes(&mut chunk.routes, scene, mixer, gains, table);
+    chunk.sound_count = scene.sound_count;
+    chunk.main = level_of(&mixer.main_volume);
+}
+
+// The same of a chunk alone.
 pub fn put_chunk(chunk: &mut Chunk, scene: &Scene, mixer: &Mixer, frames: usize, table: &GainTable)
     requires gain_table { IsGainTable table.now }
     requires scene_ok { SceneOk scene.now }
     requires mixer_fits_scene { MixerMixes scene.now mixer.now }
     ensures { chunk.new ≡ chunk_of scene.now frames mixer.now }
 {
-    chunk.frames = frames;
-    chunk.track_count = scene.track_count;
-    put_tracks(&mut chunk.tracks, scene, mixer);
-    chunk.send_count = scene.send_count;
-    put_sends(&mut chunk.sends, scene, mixer);
-    chunk.route_count = scene.route_count;
-    put_routes(&mut chunk.routes, scene, mixer, table);
-    chunk.sound_count = scene.sound_count;
-    put_sounds(&mut chunk.sounds, scene, mixer);
-    chunk.main = level_of(&mixer.main_volume);
+    let mut gains = [RouteGain::new(table); ROUTE_LINES];
+    put_next_chunk(chunk, scene, mixer, frames, &mut gains, table);
 }
 
 // The same as a new value, to be lent and laid anew for each chunk.

@@ -1,12 +1,12 @@
 // A scene's blocks, from the first to the last: each one's orders are read, and it is rendered.
-ghost use Rattle.std.specs.Prelude.{◌≡◌, false, ◌*◌, ◌<◌, length};
+ghost use Rattle.std.specs.Prelude.{◌≡◌, true, false, ◌*◌, ◌≤◌, ◌<◌, length};
 ghost use Rattle.recordings.specs.Recordings.{recordings};
 ghost use Rattle.limits.specs.Limits.{blocks_most};
 ghost use Rattle.gain_table.specs.GainTable.{IsGainTable};
 ghost use Rattle.accepted.specs.SceneOk.{SceneOk, SamplesOk};
 ghost use Rattle.mixer.specs.Mixer.{mixer_new};
 ghost use Rattle.mixer.specs.Orders.{mixer_ordered};
-ghost use Rattle.order_links.specs.Links.{block_of, block_links};
+ghost use Rattle.order_links.specs.Links.{block_of, block_links, first_line};
 ghost use Rattle.mixer_orders.specs.There.{OrdersThere};
 ghost use Rattle.renderer.specs.Renderer.{rendered};
 ghost use Rattle.chunk_render.specs.Block.{LinksOfScene, PartsOf, NanosAsk, still_head};
@@ -16,8 +16,9 @@ use block_render::{BlockLength, ShowParts, render_block};
 use chunk::Chunk;
 use chunk_render::MixRoom;
 use gain_table::GainTable;
-use limits::CHUNK_FRAMES;
+use limits::{CHUNK_FRAMES, ROUTE_LINES};
 use mixer::Mixer;
+use mixer_chunk::RouteGain;
 use order_links::{OrderLinks, first_line};
 use scene::{Head, Scene};
 use send_track::SEND_PLACES;
@@ -31,6 +32,8 @@ fn read_orders(mixer: &mut Mixer, scene: &Scene, links: &OrderLinks, block: usiz
     requires links_of_the_orders { links.now ≡ block_links (block_of scene.now.orders) scene.now.order_count }
     ensures state { mixer.new ≡ mixer_ordered scene.now block mixer.old }
     ensures none { result ≡ false → mixer.new ≡ mixer.old }
+    ensures found { (result ≡ true → first_line links.now block < scene.now.order_count)
+        × (result ≡ false → scene.now.order_count ≤ first_line links.now block) }
 {
     if first_line(links, block) < scene.order_count {
         mixer_orders::on_start_processing(mixer, scene, links, block);
@@ -78,6 +81,7 @@ pub fn render_blocks<'a>(
     let mut room = MixRoom {
         sends: [0.0; SEND_PLACES],
         mix: [0.0; 2 * CHUNK_FRAMES],
+        gains: [RouteGain::new(table); ROUTE_LINES],
     };
     for b in 0..head.blocks {
         let ordered = read_orders(mixer, scene, orders, b);

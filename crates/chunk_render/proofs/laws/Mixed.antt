@@ -1,5 +1,5 @@
 -- What mixing asks of a chunk that was laid from a mixer, and what goes out. Assumes nothing.
-use Rattle.std.proofs.Common.{◌≡◌, ℕ, ◌*◌, ◌≤◌, List, length, sym, ap, ◌∙◌, subst}
+use Rattle.std.proofs.Common.{◌≡◌, ℕ, ◌*◌, ◌≤◌, List, length, refl, sym, ap, ◌∙◌, subst}
 use lib.Ieee.{Float}
 use Rattle.recordings.specs.Recordings.{Recordings}
 use Rattle.limits.specs.Limits.{chunk_frames_most}
@@ -13,7 +13,8 @@ use Rattle.track.specs.Mix.{mixed_set}
 use Rattle.track_sounds.specs.Owners.{LinksOf}
 use Rattle.mixer.specs.declared.mixer.Mixer.{Mixer}
 use Rattle.mixer.specs.Mixer.{mixer_new}
-use Rattle.mixer_chunk.specs.ChunkOf.{chunk_of}
+use Rattle.mixer.specs.Sounds.{sounds_played}
+use Rattle.mixer_chunk.specs.ChunkOf.{chunk_of, chunk_played}
 use Rattle.renderer.proofs.laws.Lengths.{frame_piece}
 use Rattle.renderer.proofs.laws.Renderer.{mix_written}
 use Rattle.chunk_render.specs.Block.{CanMix, mixed_samples}
@@ -37,3 +38,17 @@ module _ (s : Scene) (n : ℕ) (m : Mixer) {x : Chunk} (e : x ≡ chunk_of s n m
       → pieces (frame_piece channels (frame_at (scratch 0 n) mix)) n ≡ mixed_samples channels n (chunk_of s n m) samples
   unfolding mixed_samples
   laid_samples samples channels mix₀ long q = mix_written channels n x samples mix₀ laid_frames long q ∙ ap (λ (c : Chunk). mixed_samples channels n c samples) e
+
+-- ---- a chunk of which nothing moves but the sounds
+
+-- Its other lines are those of mixer m: laid anew for what the sounds have played, it is the mixer's.
+abbrev pub Rests : Scene → Mixer → Chunk → Type 0
+Rests s m c = (n frames : ℕ) → chunk_played s n (sounds_played s frames m) c ≡ chunk_of s n (sounds_played s frames m)
+
+pub rests_laid : (s : Scene) (n : ℕ) (m : Mixer) {c : Chunk} → c ≡ chunk_of s n m → Rests s m c
+unfolding chunk_played chunk_of sounds_played
+rests_laid s n m e k frames = rw e refl
+
+pub rests_on : (s : Scene) (n frames : ℕ) (m : Mixer) {c : Chunk} → c ≡ chunk_of s n (sounds_played s frames m) → Rests s m c
+unfolding chunk_played chunk_of sounds_played
+rests_on s n frames m e k more = rw e refl

@@ -1,10 +1,10 @@
--- `process_chunks` meets its contract. The invariant: mixer and samples are those after k chunks. Assumes nothing.
+-- `process_chunks` meets its contract. The invariant: mixer and samples are those after k chunks, and the chunk is the last one's. Assumes nothing.
 use Rattle.std.proofs.Common.{sym, ◌∙◌, le_trans, le_of_eq, arith}
 use Rattle.chunk_render.proofs.laws.Turn.{inside, starts_before, turn_ends, turn_fits, done_begin, done_turn, samples_begin, samples_turn, samples_end}
 use Rattle.chunk_render.proofs.chunks.process_chunks.Goals as goal
 
 pub loop-k-init : goal.loop-k-init
-loop-k-init c = (done_begin c.args.scene.now c.args.heard.now c.args.mixer.now, samples_begin c.args.scene.now c.args.heard.now c.args.mixer.now c.args.out.now)
+loop-k-init c = (done_begin c.args.scene.now c.args.heard.now c.args.mixer.now, samples_begin c.args.scene.now c.args.heard.now c.args.mixer.now c.args.out.now, λ h. absurd (omega (arith, h)))
 
 pub overflow_mul-from : goal.overflow_mul-from
 overflow_mul-from c = let l = inside c.args.scene.now.head c.loop-k-test.true c.chunk_count-k-end.ensures in omega (arith, starts_before c.args.scene.now.head c.requires.scene_ok.buffer.0 c.loop-k.k l, c.requires.scene_ok.block.1)
@@ -33,6 +33,7 @@ loop-k-preserved c =
     let heard = c.args.heard.now in (
       done_turn s heard c.args.mixer.now c.loop-k.k c.loop-k.invariant.0 c.process_chunk.ensures.state,
       samples_turn s heard c.args.mixer.now c.loop-k.k c.loop-k.invariant.0 c.requires.scene_ok.buffer.0 (inside c.args.scene.now.head c.loop-k-test.true c.chunk_count-k-end.ensures) c.chunk_frames-frames.ensures c.args.out.now c.loop-k.invariant.1 c.process_chunk.ensures.samples,
+      λ h. c.process_chunk.ensures.kept,
     )
 
 pub returns-clause-samples : goal.returns-clause-samples
