@@ -33,7 +33,8 @@ fn block_parts(head: Head) -> BlockParts
 }
 
 // A chunk, its links and its parts are made once: which tracks, sounds and routes come under which track
-// is the same in every chunk.
+// is the same in every chunk. Never inlined: what it keeps on the stack then isn't there while a scene is read.
+#[inline(never)]
 pub fn render_scene<'a>(scene: Scene, samples: &'a [f32], visitor: &'a [f32], output: &mut [f32])
     requires scene_ok { SceneOk scene }
     requires samples_ok { SamplesOk scene (recordings samples.now visitor.now) }

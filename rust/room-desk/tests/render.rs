@@ -84,6 +84,24 @@ fn the_largest_show_fits_a_small_stack() {
     assert_eq!(show.shape.frames(), 524_288);
 }
 
+/// What the header says that a render needs, refused or not.
+#[test]
+fn a_show_and_a_refusal_need_less_than_288_kib() {
+    let first = root().join("examples/first");
+    let shows = [(fs::read(first.join("scene.txt")).unwrap(), true), (largest(), false)];
+    for (scene, accepted) in shows {
+        let samples = samples(first.join("samples.raw"));
+        let mut output = vec![0.0; 512 * 1024 * 8];
+        let thread = thread::Builder::new().stack_size(288 * 1024);
+        let render = move || {
+            let length = if accepted { 4 } else { output.len() };
+            room_desk::render_into(&scene, Recordings::house(&samples), &mut output[..length])
+        };
+        let answer = thread.spawn(render).unwrap().join().unwrap();
+        assert_eq!(answer.is_ok(), accepted, "{answer:?}");
+    }
+}
+
 #[test]
 fn a_refusal_writes_nothing() {
     let mut output = [7.0; 3];
