@@ -32,11 +32,15 @@ pub fn is_form(file: &[u8], outer: u32, form: u32) -> bool
     number4_at(file, 8, ByteOrder::Big) == form
 }
 
+// The first place that is noted stays.
 #[tactic(auto, unfolding(crate::specs::Chunks::noted))]
 fn noted(place: Option<usize>, identifier: u32, wanted: u32, at: usize) -> Option<usize>
     ensures { result ≡ noted place identifier wanted at }
 {
-    place.or((identifier == wanted).then_some(at))
+    match place {
+        None if identifier == wanted => Some(at),
+        _ => place,
+    }
 }
 
 pub fn walk(file: &[u8], order: ByteOrder, a: u32, b: u32) -> Chunks
