@@ -61,7 +61,8 @@ impl ChunkLinks {
     pub fn new(chunk: &Chunk) -> ChunkLinks
         requires lines_fit { (chunk.now.track_count ≤ track_places) × (chunk.now.sound_count ≤ sound_lines) × (chunk.now.route_count ≤ route_lines) }
         requires parents_earlier { (j : ℕ) → j < chunk.now.track_count → (track_row chunk.now j).parent ≤ j }
-        ensures { Linked chunk.now result }
+        ensures linked { Linked chunk.now result }
+        ensures heard_alone { result.sub_tracks ≡ used_links chunk.now }
     {
         ChunkLinks {
             sub_tracks: sub_track_links(chunk),

@@ -29,4 +29,4 @@ new-links-requires c =
 pub render_blocks-requires-clause-links_of_the_scene : goal.render_blocks-requires-clause-links_of_the_scene
 render_blocks-requires-clause-links_of_the_scene c =
     let s = c.args.scene in
-    subst (λ (x : Chunk). Linked x c.new-links.result) (c.chunk_of-chunk.ensures ∙ ap (λ (m : Mixer). chunk_of s s.head.buffer m) c.new-mixer.ensures) c.new-links.ensures
+    subst (λ (x : Chunk). Linked x c.new-links.result) (c.chunk_of-chunk.ensures ∙ ap (λ (m : Mixer). chunk_of s s.head.buffer m) c.new-mixer.ensures) c.new-links.ensures.linked
