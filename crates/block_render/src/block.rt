@@ -1,12 +1,14 @@
 // A block whose orders are read. Where nothing moves, or what waits does so through all of it, it is mixed as one that stands still.
-ghost use Rattle.std.specs.Prelude.{◌≡◌, true, false, ◌*◌, ◌≤◌, length};
+ghost use Rattle.std.specs.Prelude.{◌≡◌, true, false, Some, ℕ, [], ◌*◌, ◌≤◌, length};
 ghost use Rattle.recordings.specs.Recordings.{recordings};
 ghost use Rattle.limits.specs.Limits.{clock_lines};
 ghost use Rattle.gain_table.specs.GainTable.{IsGainTable};
 ghost use Rattle.accepted.specs.SceneOk.{SceneOk, SamplesOk};
-ghost use Rattle.steady_mixer.specs.MixerSteady.{LevelsIn};
+ghost use Rattle.rounding.specs.Duration.{nanos_from_secs};
+ghost use Rattle.steady_mixer.specs.Steady.{ahead};
+ghost use Rattle.steady_mixer.specs.MixerSteady.{LevelsIn, mixer_steady};
 ghost use Rattle.renderer.specs.Renderer.{chunk_count, chunks_done, block_samples};
-ghost use Rattle.chunk_render.specs.Block.{LinksOfScene, PartsOf, CanPlay, ClocksAsk, still_head, still_samples};
+ghost use Rattle.chunk_render.specs.Block.{LinksOfScene, PartsOf, CanPlay, ClocksAsk, end_ticks, still_head, still_samples};
 ghost use Rattle.block_render.specs.Still.{Waits, StandsStill, Rendering, LengthOf, still_done};
 
 use chunk::Chunk;
@@ -41,7 +43,9 @@ fn waits_through(mixer: &Mixer, scene: &Scene, time: BlockLength) -> bool
     requires length_of_the_block { LengthOf scene.now.head time }
     requires clocks_can_move { ClocksAsk scene.now.head mixer.now.clocks }
     requires clocks_fit { mixer.now.clocks.count ≤ clock_lines }
-    ensures { result ≡ true → Waits scene.now time.step mixer.now }
+    ensures waits { result ≡ true → Waits scene.now time.step mixer.now }
+    ensures found { (n : ℕ) → time.nanos ≡ Some n → nanos_from_secs time.step ≡ n
+        → mixer_steady (ahead true n (end_ticks scene.now.head mixer.now.clocks)) scene.now mixer.now ≡ true → result ≡ true }
 {
     let Some(nanos) = time.nanos else {
         return false;
@@ -62,6 +66,9 @@ fn stands_still(mixer: &mut Mixer, scene: &Scene, ordered: bool, time: BlockLeng
     requires length_of_the_block { LengthOf scene.now.head time }
     ensures still { result ≡ true → StandsStill scene.now mixer.old mixer.new }
     ensures moving { result ≡ false → mixer.new ≡ mixer.old }
+    ensures resting_found { mixer_steady (ahead false 0 []) scene.now mixer.old ≡ true → result ≡ true }
+    ensures waiting_found { (n : ℕ) → ordered ≡ false → time.nanos ≡ Some n → nanos_from_secs time.step ≡ n
+        → mixer_steady (ahead true n (end_ticks scene.now.head mixer.old.clocks)) scene.now mixer.old ≡ true → result ≡ true }
 {
     if is_steady(mixer, scene, false, 0, &[]) {
         return true;

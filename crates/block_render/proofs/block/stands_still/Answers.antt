@@ -16,4 +16,4 @@ pub returns-clause-still : goal.returns-clause-still
 returns-clause-still c =
     let r = c.requires.rendering in
     let found : c.waits_through.result ≡ true = search (rules, tests) in
-    λ _. waits_still c.args.scene.now r.chunks c.args.mixer.now c.update_levels.new.mixer c.args.time.step c.requires.scene_ok r.inside (r.settled c.if-ordered.false) (c.waits_through.ensures found) c.update_levels.ensures
+    λ _. waits_still c.args.scene.now r.chunks c.args.mixer.now c.update_levels.new.mixer c.args.time.step c.requires.scene_ok r.inside (r.settled c.if-ordered.false) (c.waits_through.ensures.waits found) c.update_levels.ensures
