@@ -3,7 +3,7 @@
 // files one after another, each behind its length in four bytes. Files that are left out are missing ones.
 #![tactic(auto)]
 
-ghost use Rattle.std.specs.Prelude.{◌≡◌, true, ◌+◌, ◌*◌, ◌≤◌, ◌<◌, length, take, IfSome};
+ghost use Rattle.std.specs.Prelude.{◌≡◌, true, ◌++◌, ◌+◌, ◌*◌, ◌≤◌, ◌<◌, length, take, drop, IfSome};
 ghost use Rattle.month.specs.Month.{most_mixes};
 ghost use Rattle.month_reader.specs.Reading.{WithBytes, Reached};
 ghost use Rattle.month_files.specs.Lines.{formed, channels_of, head_bytes};
@@ -63,7 +63,10 @@ fn hand_over(bytes: &[u8], piece: usize, stream: Stream) -> Stream
 
 // The first file, which its length stands in front of, and what stands behind it. There is none, which is an empty one, where there is
 // no length.
-fn first_file(files: &[u8]) -> (&[u8], &[u8]) {
+fn first_file(files: &[u8]) -> (&[u8], &[u8])
+    ensures within { length result.1.now ≤ length files.now }
+    ensures parted { 4 ≤ length files.now → drop 4 files.now ≡ result.0.now ++ result.1.now }
+{
     let Some((length, rest)) = files.split_first_chunk() else {
         return (&[], files);
     };
@@ -80,7 +83,7 @@ fn hand_mix<'a>(
 ) -> &'a [u8]
     requires head_holds_line { (formed head.now ≡ true) × (2 * i + 1 < length head.now) }
     requires earlier_mixes_read { (i < most_mixes) × Ended (take i (channels_of head.now)) stream.old }
-    ensures { Ended (take (i + 1) (channels_of head.now)) stream.new }
+    ensures { (length result.now ≤ length files.now) × Ended (take (i + 1) (channels_of head.now)) stream.new }
 {
     let channels = month_files::channels_at(head, i);
     let (file, behind) = first_file(files);
